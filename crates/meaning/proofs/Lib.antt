@@ -1,0 +1,13 @@
+pub mod Everywhere
+pub mod Values
+pub mod Clauses
+pub mod Weakest
+pub mod Described
+pub mod CaseDemand
+pub mod Tallies
+pub mod JobDemand
+pub mod Added
+pub mod Stated
+pub mod Settled
+pub mod Rows
+pub mod Examples

@@ -1,0 +1,10 @@
+pub mod Values
+pub mod Gates
+pub mod Guards
+pub mod Jobs
+pub mod Rows
+pub mod Runs
+pub mod Cases
+pub mod Answers
+pub mod Demands
+pub mod Stated

@@ -1,0 +1,4 @@
+pub mod Bools
+pub mod Search
+pub mod Places
+pub mod Order
