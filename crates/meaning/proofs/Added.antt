@@ -1,7 +1,7 @@
 -- One more stimulus clause: a job that HOLDS then HOLDS or is VACANT, since fewer runs meet the stimulus and the expectation is the same.
 -- Assumes nothing.
 use mathlib.Core.Path.{_≡_, refl, sym, _∙_, ap, subst}
-use mathlib.Core.Bool.{Bool, true, false, not, _||_, cond}
+use mathlib.Core.Bool.{_||_, cond}
 use Prim.Native.Nat.{ℕ, suc, _-_, _^_, _≤_, _<_}
 use native.Mathlib.Decide.{decLt, ℕ-discrete}
 use native.Mathlib.Nat.{le-trans}
@@ -10,12 +10,12 @@ use borrow.Author.Tests.{lt-ltb, le-ltb, eq-eqb, ne-eqb}
 use lib.Dec.{T, ltb, eqb}
 use Rattle.meaning.specs.declared.JobAnswer.{JobAnswer}
 use Rattle.meaning.specs.declared.JobAnswer.the-variants.{Holds, Vacant}
-use Rattle.meaning.specs.Values.{bit, _⊑_}
+use Rattle.meaning.specs.Values.{bit}
 use Rattle.meaning.specs.Guards.{truth}
-use Rattle.meaning.specs.Jobs.{Netlist, Side, stimulus, expectation, Clause, until, Job, asks, Asks, latest, lastTime, cases, WellFormed}
-use Rattle.meaning.specs.Runs.{States, forces, Run, Meets, Meeting, MissedBy}
+use Rattle.meaning.specs.Jobs.{Netlist, Side, stimulus, expectation, Clause, until, Job, asks, Asks, lastTime, cases, WellFormed}
+use Rattle.meaning.specs.Runs.{States, Run, Meeting}
 use Rattle.meaning.specs.Answers.{jobAnswer}
-use Rattle.meaning.specs.Demands.{Passing, Failing, EveryCasePasses, SomeCaseFails}
+use Rattle.meaning.specs.Demands.{Passing, Failing}
 use Rattle.meaning.proofs.Clauses.{asks-same, asks-side, place-time, until-le, latest-le}
 use Rattle.meaning.proofs.JobDemand.{isHolds, isFailsJob, isVacant, holds-iff, fails-job-iff}
 

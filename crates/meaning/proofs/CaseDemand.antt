@@ -1,24 +1,24 @@
 -- Demand 3 for one case: the answer by rows is exactly the answer by runs.
 -- Assumes nothing.
-use mathlib.Core.Path.{_≡_, refl, sym, _∙_, ap, subst}
-use mathlib.Core.Logic.{_≢_, ⊎-elim, _↔_}
-use mathlib.Core.Bool.{Bool, true, false, not}
-use Prim.Native.Nat.{ℕ, _≤_, _<_}
+use mathlib.Core.Path.{_≡_, refl, sym, _∙_, ap}
+use mathlib.Core.Logic.{⊎-elim, _↔_}
+use mathlib.Core.Bool.{Bool, true, false}
+use Prim.Native.Nat.{ℕ, _≤_}
 use native.Mathlib.Omega.{arith}
 use lib.Dec.{T, T-not, not-T}
 use Rattle.scans.proofs.Bools.{of-true}
 use Rattle.meaning.specs.declared.CaseAnswer.{CaseAnswer}
 use Rattle.meaning.specs.declared.CaseAnswer.the-variants.{Passes, Empty, Fails}
-use Rattle.meaning.specs.Values.{Value, _⊑_, Cell, value, collides, has, bit, number, cellNumber}
-use Rattle.meaning.specs.Jobs.{expectation, stimulus, Job, Asks, lastTime, WellFormed}
+use Rattle.meaning.specs.Values.{value, collides, has, bit, number, cellNumber}
+use Rattle.meaning.specs.Jobs.{expectation, Job, Asks, lastTime, WellFormed}
 use Rattle.meaning.specs.Rows.{cell}
-use Rattle.meaning.specs.Runs.{States, Run, Meets, Meeting, MissedBy, Misses, Weakest}
+use Rattle.meaning.specs.Runs.{States, Meeting, MissedBy, Weakest}
 use Rattle.meaning.specs.Cases.{caseAnswer, answerOf, isPasses, isEmpty, isFails}
-use Rattle.meaning.specs.Demands.{Passing, Failing, Unmet, Before, FirstMissed, FirstCollision, CaseSays}
-use Rattle.meaning.proofs.Values.{le-of-eq, le-trans, bit-le, Free, read, free-value, same-value, value-same, has-e, has-i, under-read, under-free}
+use Rattle.meaning.specs.Demands.{Passing, Failing, Unmet, Before, FirstMissed, CaseSays}
+use Rattle.meaning.proofs.Values.{le-of-eq, le-trans, bit-le, read, free-value, has-e, has-i, under-read}
 use Rattle.meaning.proofs.Clauses.{place-time, place-node}
-use Rattle.meaning.proofs.Weakest.{rowStates, FreeTo, rows-under, run-free, rows-weakest, weakest-one}
-use Rattle.meaning.proofs.Described.{In, NoCollision, MissedAt, EmptyAt, FailsAt, PassesAll, Describes, described, answer-is}
+use Rattle.meaning.proofs.Weakest.{rowStates, rows-under, run-free, rows-weakest, weakest-one}
+use Rattle.meaning.proofs.Described.{NoCollision, MissedAt, EmptyAt, Describes, described, answer-is}
 
 before-time : (t n t′ n′ : ℕ) {last : ℕ} → t ≤ last → Before t′ n′ t n → t′ ≤ last
 before-time t n t′ n′ l b = ⊎-elim (λ h. omega arith) (λ h. omega arith) b

@@ -1,13 +1,13 @@
 -- Where a clause speaks; the last time; the stimulus at a place, from below and from above.
 -- Assumes nothing.
-use mathlib.Core.Path.{_≡_, refl, sym, _∙_, ap, subst}
-use mathlib.Core.Bool.{Bool, true, false, not, _&&_, cond}
+use mathlib.Core.Path.{_≡_, refl, subst}
+use mathlib.Core.Bool.{Bool, true, false, _&&_, cond}
 use Prim.Native.Nat.{ℕ, zero, suc, _≤_, _<_, max}
 use native.Mathlib.Omega.{arith}
 use lib.Dec.{T, eqb, eqb→eq}
 use Rattle.scans.proofs.Bools.{and-left, and-right}
 use Rattle.scans.proofs.Search.{below-suc}
-use Rattle.meaning.specs.Values.{Value, vX, _⊑_, Cell, value, joinCells, bit}
+use Rattle.meaning.specs.Values.{Value, vX, _⊑_, value, joinCells, bit}
 use Rattle.meaning.specs.Guards.{truth}
 use Rattle.meaning.specs.Jobs.{Side, stimulus, expectation, sameSide, Clause, on, until, Job, speaks, asks, Asks, latest, lastTime, WellFormed}
 use Rattle.meaning.specs.Rows.{asked, askedBy, stimulusAt}

@@ -1,24 +1,24 @@
 -- A case's answer described by its rows, with no search: the answer of 01 fits its description, and nothing else does.
 -- So whoever shows that an answer fits, a program above all, has shown that it is the answer.
 -- Assumes nothing.
-use mathlib.Core.Path.{_≡_, refl, sym, _∙_, ap, ap₂, subst}
-use mathlib.Core.Logic.{_⊎_, inl, inr, _↔_}
+use mathlib.Core.Path.{_≡_, refl, sym, _∙_, ap₂}
+use mathlib.Core.Logic.{inl, inr, _↔_}
 use mathlib.Core.Bool.{Bool, true, false, not, _&&_, cond}
-use Prim.Native.Nat.{ℕ, zero, suc, _≤_, _<_}
+use Prim.Native.Nat.{ℕ, suc, _≤_, _<_}
 use native.Mathlib.Decide.{decLt}
 use native.Mathlib.Omega.{arith}
 use borrow.Author.Tests.{not-true, not-false}
-use lib.Dec.{T, T-not, not-T}
+use lib.Dec.{T, T-not}
 use Rattle.scans.specs.declared.Place.{Place}
 use Rattle.scans.specs.declared.Place.the-variants.{Nowhere, At}
 use Rattle.scans.specs.First.{each, firstPlace, FirstPlace}
-use Rattle.scans.proofs.Bools.{both-ways, is-true, of-true, is-false, of-false, and-left, and-right, and-both}
-use Rattle.scans.proofs.Search.{each-e, each-i, each-not}
+use Rattle.scans.proofs.Bools.{is-true, of-true, is-false, and-left, and-right, and-both}
+use Rattle.scans.proofs.Search.{each-e, each-not}
 use Rattle.scans.proofs.Places.{nowhere-each, found-at}
 use Rattle.meaning.specs.declared.CaseAnswer.{CaseAnswer}
 use Rattle.meaning.specs.declared.CaseAnswer.the-variants.{Passes, Empty, Fails}
 use Rattle.meaning.specs.Values.{Cell, collides, has, bit, cellNumber}
-use Rattle.meaning.specs.Jobs.{expectation, Clause, Job, asks, Asks, lastTime}
+use Rattle.meaning.specs.Jobs.{expectation, Job, asks, Asks, lastTime}
 use Rattle.meaning.specs.Rows.{cell}
 use Rattle.meaning.specs.Demands.{Before}
 use Rattle.meaning.specs.Cases.{missed, metAt, wantedAt, answerAt, firstCollision, firstMiss, answerOf, caseAnswer}

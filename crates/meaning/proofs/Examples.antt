@@ -1,26 +1,26 @@
 -- P1 to P12 as one table of claims, and one computed test that all of them hold.
 -- Assumes nothing.
 use mathlib.Core.Path.{_≡_, refl, sym, _∙_, ap}
-use mathlib.Core.Bool.{Bool, true, false, not, _&&_}
+use mathlib.Core.Bool.{Bool, true, false, _&&_}
 use mathlib.Core.List.{List, [], _∷_, _++_}
-use Prim.Native.Nat.{ℕ, suc, zero}
+use Prim.Native.Nat.{ℕ}
 use lib.Dec.{T, eqb, eqb→eq}
 use lib.ListN.{length, getD}
-use Rattle.scans.specs.First.{goOn, firstBad, isClear, each, placeIn, placeAt, firstPlace}
+use Rattle.scans.specs.First.{firstBad, each, firstPlace}
 use Rattle.scans.proofs.Bools.{and-left, and-right}
 use Rattle.meaning.specs.declared.CaseAnswer.{CaseAnswer}
 use Rattle.meaning.specs.declared.CaseAnswer.the-variants.{Passes, Empty, Fails}
 use Rattle.meaning.specs.declared.Counts.{Counts}
 use Rattle.meaning.specs.declared.JobAnswer.{JobAnswer}
 use Rattle.meaning.specs.declared.JobAnswer.the-variants.{Holds, Vacant}
-use Rattle.meaning.specs.Values.{Value, v0, v1, vX, Cell, value, join, joinCells, has, sameValue}
+use Rattle.meaning.specs.Values.{Value, v0, v1, vX, value, join, joinCells, has, sameValue}
 use Rattle.meaning.specs.Gates.{Gate, INPUT, ZERO, ONE, AND, OR, XOR, MUX, gateForces}
 use Rattle.meaning.specs.Guards.{Expression, TRUE, VARIABLE, bitOf, truthGiven, truths, truth}
-use Rattle.meaning.specs.Jobs.{Node, Netlist, Side, stimulus, expectation, Clause, on, until, Job, speaks, asks, latest, lastTime}
+use Rattle.meaning.specs.Jobs.{Node, stimulus, expectation, Clause, on, until, Job, speaks, asks, latest, lastTime}
 use Rattle.meaning.specs.Rows.{askedBy, stimulusAt, forcesFrom, forced, cell}
 use Rattle.meaning.specs.Cases.{metAt, wantedAt, answerOf, caseAnswer}
 use Rattle.meaning.specs.Answers.{tally, least, countsOf, jobAnswer}
-use Rattle.meaning.specs.Stated.{Word, REFUSED, PASSES, EMPTY, FAILS, HOLDS, VACANT, Stated, state, statedCase, statedJob}
+use Rattle.meaning.specs.Stated.{Word, DONE, REFUSED, PASSES, EMPTY, FAILS, HOLDS, VACANT, Stated, state, statedCase, statedJob}
 use Rattle.meaning.proofs.Values.{same-value, has-e}
 use Rattle.meaning.proofs.Stated.{case-injective, job-injective}
 
@@ -45,9 +45,10 @@ wordNumber EMPTY = 2
 wordNumber FAILS = 3
 wordNumber HOLDS = 4
 wordNumber VACANT = 5
+wordNumber DONE = 6
 
 wordAt : ℕ → Word
-wordAt i = getD (REFUSED ∷ PASSES ∷ EMPTY ∷ FAILS ∷ HOLDS ∷ VACANT ∷ []) i REFUSED
+wordAt i = getD (REFUSED ∷ PASSES ∷ EMPTY ∷ FAILS ∷ HOLDS ∷ VACANT ∷ DONE ∷ []) i REFUSED
 
 word-back : (w : Word) → wordAt (wordNumber w) ≡ w
 unfolding wordAt wordNumber
@@ -57,6 +58,7 @@ word-back EMPTY = refl
 word-back FAILS = refl
 word-back HOLDS = refl
 word-back VACANT = refl
+word-back DONE = refl
 
 sameNumbers : List ℕ → List ℕ → Bool
 sameNumbers [] [] = true

@@ -1,25 +1,24 @@
 -- Demand 3 for the whole job: the answer by counts and least cases is exactly the answer by runs; the three counts add up.
 -- Assumes nothing.
-use mathlib.Core.Path.{_≡_, refl, sym, _∙_, ap, subst}
+use mathlib.Core.Path.{_≡_, refl, sym, _∙_, ap}
 use mathlib.Core.Logic.{_↔_}
-use mathlib.Core.Bool.{Bool, true, false, not, cond}
+use mathlib.Core.Bool.{Bool, true, false, cond}
 use Prim.Native.Nat.{ℕ, zero, suc, _+_, _≤_, _<_}
 use native.Mathlib.Decide.{decLt}
 use native.Mathlib.Omega.{arith}
-use borrow.Author.Tests.{ltb-true, ltb-false, lt-ltb, le-ltb}
+use borrow.Author.Tests.{ltb-true, ltb-false}
 use lib.Dec.{T, ltb}
-use Rattle.scans.proofs.Bools.{both-ways, is-true, of-true, is-false, of-false}
+use Rattle.scans.proofs.Bools.{both-ways, of-true, of-false}
 use Rattle.meaning.specs.declared.CaseAnswer.{CaseAnswer}
 use Rattle.meaning.specs.declared.CaseAnswer.the-variants.{Passes, Empty, Fails}
-use Rattle.meaning.specs.declared.Counts.{Counts}
 use Rattle.meaning.specs.declared.JobAnswer.{JobAnswer}
 use Rattle.meaning.specs.declared.JobAnswer.the-variants.{Holds, Vacant}
 use Rattle.meaning.specs.Jobs.{Job, cases, WellFormed}
 use Rattle.meaning.specs.Cases.{caseAnswer, isPasses, isEmpty, isFails}
 use Rattle.meaning.specs.Answers.{tally, least, passing, failing, empty, countsOf, decidedBy, jobAnswer}
-use Rattle.meaning.specs.Demands.{Passing, Failing, Unmet, FirstMissed, FirstCollision, CaseSays, FirstCase, EveryCasePasses, SomeCaseFails, JobSays}
-use Rattle.meaning.proofs.CaseDemand.{case-demand, case-says, first-failing, not-both, passes-iff, fails-iff, empty-iff}
-use Rattle.meaning.proofs.Tallies.{tally-none, none-tally, Least, least-of, least-is, some-tally}
+use Rattle.meaning.specs.Demands.{Failing, Unmet, FirstMissed, FirstCollision, CaseSays, FirstCase, EveryCasePasses, SomeCaseFails, JobSays}
+use Rattle.meaning.proofs.CaseDemand.{case-demand, case-says, not-both, passes-iff, fails-iff, empty-iff}
+use Rattle.meaning.proofs.Tallies.{tally-none, Least, least-of}
 
 abbrev pub isHolds : JobAnswer → Bool
 isHolds (Holds c) = true

@@ -1,17 +1,15 @@
 -- The row of a time is the least state at that time over all runs that meet the stimulus, also for times past the job's last time.
 -- Assumes nothing.
-use mathlib.Core.Path.{_≡_, refl, sym, _∙_, ap, subst}
+use mathlib.Core.Path.{_≡_, subst}
 use mathlib.Core.Logic.{_↔_}
-use mathlib.Core.Bool.{Bool, true, false, not}
 use Prim.Native.Nat.{ℕ, zero, suc, _≤_, _<_}
 use native.Mathlib.Decide.{decLt}
 use native.Mathlib.Omega.{arith}
-use lib.Dec.{T}
-use Rattle.meaning.specs.Values.{Value, v0, v1, vX, atMost, _⊑_, Cell, value, collision, join, joinCells, collides}
-use Rattle.meaning.specs.Jobs.{stimulus, Job, Asks, lastTime, WellFormed}
-use Rattle.meaning.specs.Rows.{stimulusAt, forcesFrom, forced, cell}
-use Rattle.meaning.specs.Runs.{States, forces, Meeting, Weakest}
-use Rattle.meaning.proofs.Values.{Free, read, Under}
+use Rattle.meaning.specs.Values.{Value, v0, v1, vX, Cell, value, collision, join, joinCells}
+use Rattle.meaning.specs.Jobs.{Job, lastTime, WellFormed}
+use Rattle.meaning.specs.Rows.{stimulusAt, forced, cell}
+use Rattle.meaning.specs.Runs.{States, Meeting, Weakest}
+use Rattle.meaning.proofs.Values.{Free, Under}
 use Rattle.meaning.proofs.Clauses.{place-time, stimulus-under}
 use Rattle.meaning.proofs.Weakest.{rowStates, FreeTo, forces-free, run-free, rows-weakest}
 

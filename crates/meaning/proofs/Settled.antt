@@ -1,7 +1,7 @@
 -- No answer depends on what stands in the rows after the first collision: rows that go on there in any way give the same answer.
 -- Assumes nothing.
 use mathlib.Core.Path.{_≡_, refl, sym, _∙_, ap, subst}
-use mathlib.Core.Logic.{inl, inr, ⊎-elim, _↔_}
+use mathlib.Core.Logic.{inl, ⊎-elim, _↔_}
 use mathlib.Core.Bool.{Bool, true, false, not, cond}
 use Prim.Native.Nat.{ℕ, zero, suc, _≤_, _<_}
 use native.Mathlib.Omega.{arith}
@@ -10,13 +10,11 @@ use Rattle.meaning.specs.declared.CaseAnswer.{CaseAnswer}
 use Rattle.meaning.specs.declared.CaseAnswer.the-variants.{Passes, Empty, Fails}
 use Rattle.meaning.specs.Values.{Cell, value, vX, joinCells, collides, has, bit, cellNumber}
 use Rattle.meaning.specs.Gates.{arity}
-use Rattle.meaning.specs.Jobs.{Node, operand, Job, lastTime, WellFormed}
+use Rattle.meaning.specs.Jobs.{Node, operand, Job, WellFormed}
 use Rattle.meaning.specs.Rows.{stimulusAt, readCell, forcesFrom, forced, cell}
 use Rattle.meaning.specs.Cases.{answerOf, caseAnswer}
-use Rattle.meaning.specs.Demands.{Before}
 use Rattle.meaning.proofs.Values.{Free}
-use Rattle.meaning.proofs.Clauses.{place-time, place-node}
-use Rattle.meaning.proofs.Described.{In, NoCollision, MissedAt, EmptyAt, FailsAt, PassesAll, Describes, described, answer-is}
+use Rattle.meaning.proofs.Described.{In, NoCollision, MissedAt, Describes, described, answer-is}
 
 -- two rows that agree on the nodes of a netlist: a gate forces the same from both
 module _ (d : Node) (row row′ : ℕ → Cell) (size : ℕ) (inside : (i : ℕ) → i < arity (d .gate) → operand d i < size) (same : (m : ℕ) → m < size → row m ≡ row′ m) where

@@ -1,7 +1,7 @@
 -- Two answers that are stated alike are one.
 -- Assumes nothing.
 use mathlib.Core.Path.{_≡_, refl}
-use mathlib.Core.List.{List, [], _∷_}
+use mathlib.Core.List.{List}
 use Prim.Native.Nat.{ℕ}
 use native.Mathlib.Omega.{arith}
 use Rattle.meaning.specs.declared.CaseAnswer.{CaseAnswer}
@@ -9,7 +9,7 @@ use Rattle.meaning.specs.declared.CaseAnswer.the-variants.{Passes, Empty
 use Rattle.meaning.specs.declared.Counts.{Counts}
 use Rattle.meaning.specs.declared.JobAnswer.{JobAnswer}
 use Rattle.meaning.specs.declared.JobAnswer.the-variants.{Holds, Vacant}
-use Rattle.meaning.specs.Stated.{Word, Stated, state, statedCase, withCounts, statedJob}
+use Rattle.meaning.specs.Stated.{Word, state, statedCase, withCounts, statedJob}
 
 -- by its words: two different words are never equal
 apart : {P : Type 0} → _≡_ {A = ℕ} 0 1 → P

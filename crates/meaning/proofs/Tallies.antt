@@ -1,18 +1,17 @@
 -- Tallies and least cases: what a count above 0 means, and how a stretch of cases adds to what came before.
 -- Assumes nothing.
-use mathlib.Core.Path.{_≡_, refl, sym, _∙_, ap, ap₂, subst}
+use mathlib.Core.Path.{_≡_, refl, sym, ap}
 use mathlib.Core.Bool.{Bool, true, false, not, cond}
-use Prim.Native.Nat.{ℕ, zero, suc, _+_, _-_, _≤_, _<_}
+use Prim.Native.Nat.{ℕ, zero, suc, _+_, _≤_, _<_}
 use native.Mathlib.Nat.{add-suc, add-zero}
 use native.Mathlib.Decide.{decLt}
 use native.Mathlib.Omega.{arith}
 use borrow.Author.Tests.{not-true, not-false}
-use lib.Dec.{T, T-not}
 use Rattle.scans.specs.declared.Scan.{Scan}
 use Rattle.scans.specs.declared.Scan.the-variants.{Clear, Stopped}
-use Rattle.scans.specs.First.{firstBad, FirstBad}
-use Rattle.scans.proofs.Bools.{both-ways, is-true, of-true, is-false}
-use Rattle.scans.proofs.Search.{below-suc, clear-each, each-clear, stopped-at, at-stopped}
+use Rattle.scans.specs.First.{firstBad}
+use Rattle.scans.proofs.Bools.{both-ways}
+use Rattle.scans.proofs.Search.{below-suc, clear-each, stopped-at, at-stopped}
 use Rattle.meaning.specs.Answers.{tally, orZero, least}
 
 pub tally-le : (f : ℕ → Bool) (n : ℕ) → tally f n ≤ n

@@ -1,15 +1,12 @@
 -- The order, joining, and the gates' monotonicity, each by a test over all values that antt computes.
 -- Assumes nothing.
-use mathlib.Core.Path.{_≡_, refl, sym, _∙_, ap}
-use mathlib.Core.Logic.{_≢_}
+use mathlib.Core.Path.{_≡_, refl, ap}
 use mathlib.Core.Bool.{Bool, true, false, not}
-use Prim.Native.Nat.{ℕ}
-use native.Mathlib.Omega.{arith}
-use lib.Dec.{T, eqb→eq, eqb-refl, T-not}
-use Rattle.meaning.specs.Values.{Value, v0, v1, vX, atMost, _⊑_, Cell, value, collision, join, joinCells, collides, bit, number, sameValue, has, cellNumber}
+use lib.Dec.{T, eqb-refl}
+use Rattle.meaning.specs.Values.{Value, v0, v1, vX, atMost, _⊑_, Cell, value, collision, join, joinCells, collides, bit, number, sameValue, has}
 use Rattle.meaning.specs.Gates.{Gate, gateForces}
 use Rattle.meaning.specs.Rows.{forcesCells}
-use Rattle.meaning.proofs.Everywhere.{implies, implies-e, values, values-e, values2-e, ordered, ordered-e, gates, gates-e}
+use Rattle.meaning.proofs.Everywhere.{implies, implies-e, values, values-e, ordered, ordered-e, gates-e}
 
 pub le : (a b : Value) → T (atMost a b) → a ⊑ b
 le a b t = record { le = t }

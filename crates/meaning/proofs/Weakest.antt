@@ -1,17 +1,17 @@
 -- Bryant and Seger's theorem: the rows, where nothing collides, are the weakest run that meets the stimulus; and no run meets it where something does.
 -- For any last time, so that it also speaks of times past the job's own.
 -- Assumes nothing.
-use mathlib.Core.Path.{_≡_, refl, sym, _∙_, ap, subst}
-use mathlib.Core.Bool.{Bool, true, false, not, cond}
+use mathlib.Core.Path.{_≡_, refl, sym}
+use mathlib.Core.Bool.{Bool, true, false, cond}
 use Prim.Native.Nat.{ℕ, zero, suc, _≤_, _<_}
 use native.Mathlib.Omega.{arith}
 use lib.Dec.{T, ltb, ltb→lt}
-use Rattle.meaning.specs.Values.{Value, vX, _⊑_, Cell, value, collision, joinCells, collides, bit}
-use Rattle.meaning.specs.Gates.{arity, gateForces}
-use Rattle.meaning.specs.Jobs.{Node, operand, Netlist, stimulus, Job, Asks, lastTime, WellFormed}
-use Rattle.meaning.specs.Rows.{stimulusAt, readCell, forcesCells, forcesFrom, forced, cell}
+use Rattle.meaning.specs.Values.{Value, vX, Cell, value, joinCells}
+use Rattle.meaning.specs.Gates.{arity}
+use Rattle.meaning.specs.Jobs.{Node, operand, stimulus, Job, WellFormed}
+use Rattle.meaning.specs.Rows.{stimulusAt, readCell, forcesFrom, forced, cell}
 use Rattle.meaning.specs.Runs.{States, readValue, forces, Run, Meets, Meeting, Weakest}
-use Rattle.meaning.proofs.Values.{le-refl, le-of-eq, le-trans, le-antisym, bit-le, Free, read, free-value, Under, Over, under-read, under-free, under-le, over-read, over-left, over-right, under-both, under-forces}
+use Rattle.meaning.proofs.Values.{le-refl, le-of-eq, le-antisym, bit-le, Free, read, free-value, Under, under-read, under-free, under-le, over-read, over-left, over-right, under-both, under-forces}
 use Rattle.meaning.proofs.Clauses.{place-node, stimulus-over, stimulus-under}
 
 -- a row whose cells are values at most those of a state: so is what a gate forces from it

@@ -1,6 +1,6 @@
 -- The answer for the whole job: three counts over the cases below 2^k, and the case that decides.
 -- Assumes nothing.
-use mathlib.Core.Bool.{Bool, true, false, not, cond}
+use mathlib.Core.Bool.{Bool, not, cond}
 use Prim.Native.Nat.{ℕ, zero, suc, _+_}
 use lib.Dec.{ltb}
 use Rattle.meaning.specs.declared.CaseAnswer.{CaseAnswer}

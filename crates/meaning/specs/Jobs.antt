@@ -1,7 +1,7 @@
 -- A job: a netlist, guards over k variables, and clauses on two sides.
 -- Assumes nothing.
 use mathlib.Core.Bool.{Bool, true, false, _&&_}
-use Prim.Native.Nat.{ℕ, zero, suc, _≤_, _<_, _^_, max}
+use Prim.Native.Nat.{ℕ, zero, suc, _<_, _^_, max}
 use lib.Dec.{T, eqb}
 use Rattle.meaning.specs.Gates.{Gate, arity}
 use Rattle.meaning.specs.Guards.{Expression, truth}

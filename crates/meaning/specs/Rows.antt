@@ -4,9 +4,9 @@ use mathlib.Core.Bool.{Bool, not, cond}
 use mathlib.Core.List.{List, [], _∷_, _++_}
 use Prim.Native.Nat.{ℕ, zero, suc}
 use lib.Dec.{ltb}
-use Rattle.meaning.specs.Values.{Value, vX, Cell, value, collision, joinCells, collides, bit, cellNumber}
+use Rattle.meaning.specs.Values.{vX, Cell, value, collision, joinCells, collides, bit, cellNumber}
 use Rattle.meaning.specs.Gates.{Gate, arity, gateForces}
-use Rattle.meaning.specs.Jobs.{Node, operand, Netlist, stimulus, Clause, Job, asks}
+use Rattle.meaning.specs.Jobs.{Node, operand, stimulus, Clause, Job, asks}
 use Rattle.scans.specs.First.{each}
 
 -- what clause c asks of node n at time t in case x: its value if it is stimulus and speaks there

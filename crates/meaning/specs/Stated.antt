@@ -1,5 +1,6 @@
 -- What 01 states for each case of an answer: its word, and its numbers in 01's order.
 -- Assumes nothing.
+use mathlib.Core.Bool.{Bool, true, false}
 use mathlib.Core.List.{List, [], _∷_}
 use Prim.Native.Nat.{ℕ}
 use Rattle.meaning.specs.declared.CaseAnswer.{CaseAnswer}
@@ -8,8 +9,18 @@ use Rattle.meaning.specs.declared.Counts.{Counts}
 use Rattle.meaning.specs.declared.JobAnswer.{JobAnswer}
 use Rattle.meaning.specs.declared.JobAnswer.the-variants.{Holds, Vacant}
 
+-- DONE: what was asked for is given, and 01 has no word for it
 pub data Word : Type 0 where
-  REFUSED PASSES EMPTY FAILS HOLDS VACANT : Word
+  DONE REFUSED PASSES EMPTY FAILS HOLDS VACANT : Word
+
+abbrev pub isDone : Word → Bool
+isDone DONE = true
+isDone REFUSED = false
+isDone PASSES = false
+isDone EMPTY = false
+isDone FAILS = false
+isDone HOLDS = false
+isDone VACANT = false
 
 pub record Stated : Type 0 where
   pub word : Word

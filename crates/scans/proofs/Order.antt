@@ -1,42 +1,37 @@
--- Refusals in their order: the laws of a function that goes through them, and the way back from its last answer to every test passed.
+-- Refusals in their order, forward: the laws of a function that goes through a table.
 -- Assumes nothing.
 use borrow.Author.Needs.{needs}
 use borrow.Author.Tests.{not-true, not-false}
-use mathlib.Core.Path.{_≡_, refl}
+use mathlib.Core.Path.{_≡_}
 use mathlib.Core.Bool.{Bool, true, false, not}
+use mathlib.Core.List.{List, [], _∷_}
 use Prim.Native.Nat.{ℕ}
 use Rattle.scans.specs.declared.Scan.{Scan}
 use Rattle.scans.specs.declared.Scan.the-variants.{Clear, Stopped}
-use Rattle.scans.specs.Refusals.{unless, unlessAt}
+use Rattle.scans.specs.First.{firstBad}
+use Rattle.scans.specs.Refusals.{Stage, whole, unlessAt, inOrder}
 
--- forward: what the code's branch gives is the definition's answer
-module _ {A : Type 0} {r : A} where
-  pub on-stopped : {x y : Scan} {i : ℕ} (refusedAt : ℕ → A) (next : A) → y ≡ x → y ≡ Stopped i → r ≡ refusedAt i → r ≡ unlessAt x refusedAt next
-  unfolding unlessAt
-  on-stopped {x} {i = i} refusedAt next e f g = let w : x ≡ Stopped i = cc in rw w g
+-- what a branch of the code answers is the table's answer
+module _ {A : Type 0} {r : A} (refused : ℕ → ℕ → ℕ → A) (rest : List Stage) (answer : A) where
+  pub on-stopped : (st : Stage) {y : Scan} {i : ℕ} → y ≡ firstBad (st .ok) (st .count) → y ≡ Stopped i → r ≡ refused (st .number) (st .block i) (st .slot i) → r ≡ inOrder refused (st ∷ rest) answer
+  unfolding inOrder unlessAt
+  on-stopped st {i = i} e f g = let w : firstBad (st .ok) (st .count) ≡ Stopped i = cc in rw w g
 
-  pub on-clear : {x y : Scan} (refusedAt : ℕ → A) (next : A) → y ≡ x → y ≡ Clear → r ≡ next → r ≡ unlessAt x refusedAt next
-  unfolding unlessAt
-  on-clear {x} refusedAt next e f g = let w : x ≡ Clear = cc in rw w g
+  pub on-clear : (st : Stage) {y : Scan} → y ≡ firstBad (st .ok) (st .count) → y ≡ Clear → r ≡ inOrder refused rest answer → r ≡ inOrder refused (st ∷ rest) answer
+  unfolding inOrder unlessAt
+  on-clear st e f g = let w : firstBad (st .ok) (st .count) ≡ Clear = cc in rw w g
 
-  pub on-passed : {x t : Bool} (refused next : A) → t ≡ x → not t ≡ false → r ≡ next → r ≡ unless x refused next
-  unfolding unless
-  on-passed {x} {t} refused next e f g = let w : x ≡ true = cc (not-false t f) in rw w g
+  pub on-failed : (number : ℕ) {x t : Bool} → t ≡ x → not t ≡ true → r ≡ refused number 0 0 → r ≡ inOrder refused (whole number x ∷ rest) answer
+  unfolding inOrder unlessAt firstBad
+  on-failed number {x} {t} e f g = let w : x ≡ false = cc (not-true t f) in rw w g
 
-  pub on-failed : {x t : Bool} (refused next : A) → t ≡ x → not t ≡ true → r ≡ refused → r ≡ unless x refused next
-  unfolding unless
-  on-failed {x} {t} refused next e f g = let w : x ≡ false = cc (not-true t f) in rw w g
+  pub on-passed : (number : ℕ) {x t : Bool} → t ≡ x → not t ≡ false → r ≡ inOrder refused rest answer → r ≡ inOrder refused (whole number x ∷ rest) answer
+  unfolding inOrder unlessAt firstBad
+  on-passed number {x} {t} e f g = let w : x ≡ true = cc (not-false t f) in rw w g
 
-pub ruleset refusals = (needs, on-stopped, on-clear, on-passed, on-failed)
+-- every test is passed
+pub on-end : {A : Type 0} {r : A} (refused : ℕ → ℕ → ℕ → A) (answer : A) → r ≡ answer → r ≡ inOrder refused [] answer
+unfolding inOrder
+on-end refused answer e = e
 
--- back: an answer that no refusal gives has passed this test, and is what comes next
-module _ {A : Type 0} {r : A} (next : A) where
-  pub past : (x : Bool) (refused : A) → (refused ≡ r → ⊥) → unless x refused next ≡ r → (x ≡ true) × (next ≡ r)
-  unfolding unless
-  past true refused never e = (refl, e)
-  past false refused never e = absurd (never e)
-
-  pub pastAt : (x : Scan) (refusedAt : ℕ → A) → ((i : ℕ) → refusedAt i ≡ r → ⊥) → unlessAt x refusedAt next ≡ r → (x ≡ Clear) × (next ≡ r)
-  unfolding unlessAt
-  pastAt Clear refusedAt never e = (refl, e)
-  pastAt (Stopped i) refusedAt never e = absurd (never i e)
+pub ruleset refusals = (needs, on-stopped, on-clear, on-failed, on-passed, on-end)

@@ -1,13 +1,11 @@
 -- The first place over times and nodes: what it is, and that there is one only.
 -- Assumes nothing.
-use lib.Dec.{T}
-use mathlib.Core.Path.{_≡_, refl, sym, _∙_, ap}
+use mathlib.Core.Path.{_≡_, refl, sym}
 use mathlib.Core.Bool.{Bool, true, false}
 use native.Mathlib.Omega.{arith}
-use Prim.Native.Nat.{ℕ, _≤_, _<_}
+use Prim.Native.Nat.{ℕ, _<_}
 use Rattle.scans.specs.declared.Scan.{Scan}
 use Rattle.scans.specs.declared.Scan.the-variants.{Clear, Stopped}
-use Rattle.scans.specs.declared.Place.{Place}
 use Rattle.scans.specs.declared.Place.the-variants.{Nowhere, At}
 use Rattle.scans.specs.First.{firstBad, each, placeIn, placeAt, firstPlace, FirstBad, FirstPlace}
 use Rattle.scans.proofs.Bools.{both-ways, is-true, of-true, is-false}

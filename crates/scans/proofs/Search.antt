@@ -8,11 +8,11 @@ use mathlib.Core.Bool.{Bool, true, false, not}
 use native.Mathlib.Decide.{decLt}
 use native.Mathlib.Numerals.{add-one}
 use native.Mathlib.Omega.{arith}
-use Prim.Native.Nat.{ℕ, zero, suc, _+_, _-_, _≤_, _<_}
+use Prim.Native.Nat.{ℕ, zero, suc, _+_, _≤_, _<_}
 use Rattle.scans.specs.declared.Scan.{Scan}
 use Rattle.scans.specs.declared.Scan.the-variants.{Clear, Stopped}
 use Rattle.scans.specs.First.{goOn, firstBad, isClear, each, FirstBad, Passed}
-use Rattle.scans.proofs.Bools.{both-ways, is-true, of-true, is-false}
+use Rattle.scans.proofs.Bools.{both-ways}
 
 -- what holds of each index below n, and of n, holds of each below n + 1
 pub below-suc : (P : ℕ → Type 0) (n : ℕ) → ((i : ℕ) → i < n → P i) → P n → (i : ℕ) → i < suc n → P i
@@ -113,6 +113,15 @@ module _ {f : ℕ → Bool} {n i : ℕ} (p : Passed f n i) where
   pub passed-all : n ≤ i → Clear ≡ firstBad f n
   passed-all h = let e : i ≡ n = omega arith in sym (rw e at (p .so-far))
 
+  -- of a loop that answers only whether each index passes
+  pub passed-each : n ≤ i → true ≡ each f n
+  unfolding each
+  passed-each h = rw (← passed-all h)
+
+  pub passed-not : i < n → {t : Bool} → t ≡ f i → t ≡ false → false ≡ each f n
+  unfolding each
+  passed-not h q e = rw (← passed-bad h q e)
+
   -- the same where the code tests `!ok`
   pub passed-more! : i < n → {t : Bool} → t ≡ f i → not t ≡ false → Passed f n (i + 1)
   passed-more! h {t} q e = passed-more h q (not-false t e)
@@ -120,4 +129,7 @@ module _ {f : ℕ → Bool} {n i : ℕ} (p : Passed f n i) where
   pub passed-bad! : i < n → {t : Bool} → t ≡ f i → not t ≡ true → Stopped i ≡ firstBad f n
   passed-bad! h {t} q e = passed-bad h q (not-true t e)
 
-pub ruleset scans = (needs, passed-none, passed-more, passed-bad, passed-more!, passed-bad!, passed-all)
+  pub passed-not! : i < n → {t : Bool} → t ≡ f i → not t ≡ true → false ≡ each f n
+  passed-not! h {t} q e = passed-not h q (not-true t e)
+
+pub ruleset scans = (needs, passed-none, passed-more, passed-bad, passed-more!, passed-bad!, passed-all, passed-each, passed-not, passed-not!)

@@ -1,0 +1,3 @@
+pub mod Words
+pub mod Borders
+pub mod Spots

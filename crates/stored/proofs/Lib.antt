@@ -1,0 +1,13 @@
+pub mod ByteLaws
+pub mod Sums
+pub mod RuleTests
+pub mod Parts
+pub mod Stored
+pub mod Accepted
+pub mod Changed
+pub mod Exchanged
+pub mod Refusals
+pub mod PackRefusals
+pub mod Promise
+pub mod RoundTrips
+pub mod Determined
