@@ -1,7 +1,7 @@
 -- Where a clause speaks; the last time; the stimulus at a place, from below and from above.
 -- Assumes nothing.
 use mathlib.Core.Path.{_≡_, refl, subst}
-use mathlib.Core.Bool.{Bool, true, false, _&&_, cond}
+use mathlib.Core.Bool.{and-false, Bool, true, false, _&&_, cond}
 use Prim.Native.Nat.{ℕ, zero, suc, _≤_, _<_, max}
 use native.Mathlib.Omega.{arith}
 use lib.Dec.{T, eqb, eqb→eq}
@@ -71,6 +71,11 @@ module _ (j : Job) {side : Side} {x t n i : ℕ} (a : Asks j side x t n i) where
 pub asks-same : (j j′ : Job) (side : Side) (x t n : ℕ) (c : Clause) → truth (j .expressions) x (c .guard) ≡ truth (j′ .expressions) x (c .guard) → asks j side x t n c ≡ asks j′ side x t n c
 unfolding asks speaks
 asks-same j j′ side x t n c e = rw e
+
+-- at a time that is not its own a clause asks nothing
+pub asks-off : (j : Job) (side : Side) (x t n : ℕ) (c : Clause) → on c t ≡ false → asks j side x t n c ≡ false
+unfolding asks speaks
+asks-off j side x t n c e = rw (e, and-false, and-false)
 
 module _ (j : Job) (x t n : ℕ) where
   abbrev there : ℕ → Bool

@@ -11,3 +11,4 @@ pub mod Stated
 pub mod Settled
 pub mod Rows
 pub mod Examples
+pub mod Cells

@@ -45,7 +45,7 @@ tally-same f g (suc n) h = rw (tally-same f g n (λ i l. h i (omega arith)), h n
 
 pub tally-split : (f : ℕ → Bool) (a b : ℕ) → tally f (a + b) ≡ tally f a + tally (λ i. f (a + i)) b
 unfolding tally
-tally-split f a zero = rw add-zero (omega arith)
+tally-split f a zero = rw (add-zero a) (omega arith)
 tally-split f a (suc b) = rw add-suc (omega (arith, tally-split f a b))
 
 -- x is the least below n with f

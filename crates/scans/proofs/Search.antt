@@ -4,7 +4,7 @@ use borrow.Author.Needs.{needs}
 use borrow.Author.Tests.{not-true, not-false}
 use lib.Dec.{T}
 use mathlib.Core.Path.{_≡_, refl, sym, _∙_, subst}
-use mathlib.Core.Bool.{Bool, true, false, not}
+use mathlib.Core.Bool.{Bool, true, false, not, _&&_}
 use native.Mathlib.Decide.{decLt}
 use native.Mathlib.Numerals.{add-one}
 use native.Mathlib.Omega.{arith}
@@ -90,6 +90,16 @@ module _ (f : ℕ → Bool) where
       go : (s : Scan) → firstBad f n ≡ s → isClear s ≡ false → (i : ℕ) × FirstBad f n i
       go Clear p q = both-ways refl q
       go (Stopped i) p q = (i, stopped-at n p)
+
+-- each of one more
+pub each-suc : (f : ℕ → Bool) (n : ℕ) → each f (suc n) ≡ (each f n && f n)
+unfolding each firstBad
+each-suc f n = go (firstBad f n) (f n)
+  where
+    go : (s : Scan) (b : Bool) → isClear (goOn s b n) ≡ (isClear s && b)
+    go Clear true = refl
+    go Clear false = refl
+    go (Stopped i) b = refl
 
 -- two tests that agree below n stop at the same index
 pub firstBad-same : (f g : ℕ → Bool) (n : ℕ) → ((i : ℕ) → i < n → f i ≡ g i) → firstBad f n ≡ firstBad g n
