@@ -10,5 +10,4 @@ pub mod Added
 pub mod Stated
 pub mod Settled
 pub mod Rows
-pub mod Examples
 pub mod Cells

@@ -1,0 +1,5 @@
+pub mod Forced
+pub mod Walked
+pub mod Shown
+pub mod Marks
+pub mod Found

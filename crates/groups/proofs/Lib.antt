@@ -1,0 +1,9 @@
+pub mod Pairs
+pub mod Walks
+pub mod StepLaws
+pub mod NarrowLaws
+pub mod StimulusLaws
+pub mod ExpectLaws
+pub mod TurnLaws
+pub mod RunLaws
+pub mod GroupLaws

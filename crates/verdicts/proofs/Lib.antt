@@ -1,0 +1,11 @@
+pub mod Answers
+pub mod Tables
+pub mod Clear
+pub mod Refusals
+pub mod RowRefusals
+pub mod Demand
+pub mod Row
+pub mod Alike
+pub mod Added
+pub mod Packed
+pub mod Determined
