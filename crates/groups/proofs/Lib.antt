@@ -1,6 +1,8 @@
 pub mod Pairs
 pub mod Walks
+pub mod SortLaws
 pub mod StepLaws
+pub mod SteadyLaws
 pub mod NarrowLaws
 pub mod StimulusLaws
 pub mod ExpectLaws

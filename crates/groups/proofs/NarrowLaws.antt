@@ -40,6 +40,7 @@ narrows-not w n guards zeros ones e =
       zeros-long = refl;
       ones-long = refl;
       joined = λ i l f h. record { at = λ m g. h .at m g ∙ sym (ap (λ s. joinCells (f m) (value (cond (sameSide s stimulus && (bitOf (getD guards (half3 w) 0) i && eqb (clauseOf w .node) m)) (bit (clauseOf w .value)) vX))) e ∙ join-nothing (f m)) };
+      elsewhere = λ m h. refl;
       collided = λ i l. bit-zero i ∙ ap (λ s. sameSide s stimulus && collides (cellAt (pairAt zeros ones (half1 w)) i)) (sym e);
     }
 
@@ -66,6 +67,7 @@ module _ (w n : ℕ) (guards zeros ones : List ℕ) (new : Pair) (r : ℕ) (lz :
         zeros-long = length-set zeros (half1 w) (new .zeros);
         ones-long = length-set ones (half1 w) (new .ones);
         joined = λ i l f h. record { at = λ m g. go i l f h m g (ℕ-discrete m (half1 w)) };
+        elsewhere = stored-elsewhere zeros ones (half1 w) new lz lo;
         collided = λ i l. tells .at i l ∙ ap (λ p. collides (cellAt p i)) (sym (stored-there zeros ones (half1 w) new lz lo)) ∙ ap (λ s. sameSide s stimulus && collides (cellAt (pairAt zeros′ ones′ (half1 w)) i)) (sym side);
       }
     where

@@ -69,6 +69,7 @@ module _ (j : Job) (n e t : ℕ) (guards zeros ones : List ℕ) where
       record {
         joined = λ p x l f g h. record { at = λ m k. h .at m k ∙ sym (join-nothing (f m)) };
         collided = λ p x l v g h. bit-zero p ∙ ap not (sym (is-true (each (λ m. not (collides (joinCells (value (v m)) (value vX)))) n) (each-i _ n (λ m k. ap (λ c. not (collides c)) (join-nothing (value (v m)))))));
+        spared = λ m h. refl;
       }
 
   -- a jump over clauses of other times
@@ -77,6 +78,7 @@ module _ (j : Job) (n e t : ℕ) (guards zeros ones : List ℕ) where
       record {
         joined = λ p x l f g h. record { at = λ m d. s .joined p x l f g h .at m d ∙ ap (joinCells (f m)) (sym (asked-jump j x t m i k next)) };
         collided = λ p x l v g h. s .collided p x l v g h ∙ ap not (each-same n (λ m. ap (λ c. not (collides (joinCells (value (v m)) c))) (sym (asked-jump j x t m i k next))));
+        spared = λ m h. s .spared m (λ a l. h a (omega (arith, next .from)));
       }
 
   -- clause w of the job is joined
@@ -99,7 +101,7 @@ module _ (j : Job) (n e t : ℕ) (guards zeros ones : List ℕ) where
     pub stimulates-more : {zeros′ ones′ zeros″ ones″ : List ℕ} {r d : ℕ} → Stimulates j n e t i guards zeros ones zeros′ ones′ d → NarrowsBy w n guards zeros′ ones′ zeros″ ones″ r
         → Stimulates j n e t (suc i) guards zeros ones zeros″ ones″ (bitOr d r)
     unfolding clauseOf
-    stimulates-more {zeros″ = zeros″} {ones″} {r} {d} s b = record { joined = joined; collided = collided }
+    stimulates-more {zeros″ = zeros″} {ones″} {r} {d} s b = record { joined = joined; collided = collided; spared = λ m h. b .elsewhere m (λ q. h i (omega arith) timely (ap (λ c. c .node) here ∙ sym q)) ∙ s .spared m (λ a l. h a (omega arith)) }
       where
         joined : (p x : ℕ) → p < 64 → (f : ℕ → Cell) → Guarded j e guards p x → Held n zeros ones p f → Held n zeros″ ones″ p (λ m. joinCells (f m) (askedBy j x t m (suc i)))
         joined p x l f g h = record { at = λ m k. b .joined p l _ (s .joined p x l f g h) .at m k ∙ cell-more p x m (f m) g }

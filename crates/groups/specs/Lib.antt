@@ -1,2 +1,4 @@
 pub mod Held
 pub mod Turns
+pub mod Sorted
+pub mod Steady

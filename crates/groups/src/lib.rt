@@ -1,26 +1,35 @@
 // Sixty-four cases together, over all times.
+mod steady;
+mod steps;
+
+use crate::steady::renew;
+use crate::steady::settle;
+use crate::steps::sort;
+use crate::steps::step;
 use decoded::first_byte;
 use decoded::first_half;
 use decoded::second_byte;
-use decoded::second_half;
 use decoded::third_half;
 use guards::guard_words;
 use stored::Size;
 use words::Pair;
 use words::collided;
 use words::differs;
-use words::gate_pair;
 use words::narrow;
 ghost use mathlib.Core.Path.{_≡_};
 ghost use mathlib.Core.List.{List};
 ghost use Prim.Native.Nat.{ℕ, _+_, _*_, _<_, _≤_};
 ghost use lib.ListN.{length, getD};
 ghost use Rattle.meaning.specs.Jobs.{latest};
-ghost use Rattle.words.specs.Places.{Forces};
-ghost use Rattle.decoded.specs.Fields.{byte0, half1, half2, half3, clauseOf, jobFrom, Decoded};
+ghost use Rattle.decoded.specs.Fields.{half1, half3, clauseOf, jobFrom, Decoded};
 ghost use Rattle.decoded.specs.Chains.{Chained};
-ghost use Rattle.groups.specs.Held.{pairAt, NodeForces, Steps, Asking, Stimulates, Expects, NarrowsBy, MissedWhere};
+ghost use Rattle.groups.specs.Held.{pairAt, Asking, Stimulates, Expects, NarrowsBy, MissedWhere};
+ghost use Rattle.groups.specs.Sorted.{Sorted};
+ghost use Rattle.groups.specs.Steady.{Steady};
 ghost use Rattle.groups.specs.Turns.{Wired, Turns, Unknown, RanPast, GroupTells};
+
+// Every place of a word.
+const ALL: u64 = 0xFFFF_FFFF_FFFF_FFFF;
 
 // What one time tells: where a node collides, and where an expectation is missed.
 pub struct Told {
@@ -41,40 +50,6 @@ fn pair_at(zeros: &[u64], ones: &[u64], n: usize) -> Pair
     Pair {
         zeros: zeros[n],
         ones: ones[n],
-    }
-}
-
-// What the gate of a node forces, from the words of its operands.
-fn node_pair(node: u64, zeros: &[u64], ones: &[u64]) -> Pair
-    requires { ⌜ (half1 node < length (now zeros)) × ((half2 node < length (now zeros)) × (half3 node < length (now zeros))) ⌝ }
-    requires { ⌜ length (now ones) ≡ length (now zeros) ⌝ }
-    ensures { λ r. ⌜ NodeForces node (now (zeros .entry)) (now (ones .entry)) r ⌝ }
-{
-    let p = pair_at(zeros, ones, first_half(node));
-    let q = pair_at(zeros, ones, second_half(node));
-    let r = pair_at(zeros, ones, third_half(node));
-    gate_pair(first_byte(node), p, q, r)
-}
-
-// What all gates force from one row is written to another.
-fn step(
-    nodes: &[u64],
-    n: usize,
-    zeros: &[u64],
-    ones: &[u64],
-    forced0: &mut [u64],
-    forced1: &mut [u64],
-)
-    requires { ⌜ (n ≤ length (now zeros)) × ((length (now ones) ≡ length (now zeros)) × ((n ≤ length (now forced0)) × (n ≤ length (now forced1)))) ⌝ }
-    requires { ⌜ Wired n (now nodes) ⌝ }
-    ensures { λ _. ⌜ Steps (now (nodes .entry)) n (now (zeros .entry)) (now (ones .entry)) (now (forced0 .exit)) (now (forced1 .exit)) ⌝ }
-{
-    let mut m: usize = 0;
-    while m < n {
-        let new = node_pair(nodes[m], zeros, ones);
-        forced0[m] = new.zeros;
-        forced1[m] = new.ones;
-        m += 1;
     }
 }
 
@@ -158,6 +133,8 @@ fn expect(
 fn turn(
     z: Size,
     nodes: &[u64],
+    gates: &[u64],
+    starts: &[usize],
     clauses: &[u64],
     heads: &[u16],
     nexts: &[u16],
@@ -168,13 +145,15 @@ fn turn(
     forced0: &mut [u64],
     forced1: &mut [u64],
 ) -> Told
-    requires { ⌜ Wired (z .n) (now nodes) × Asking (z .n) (z .e) (z .c) (now clauses) × Chained (λ i. clauseOf (getD (now clauses) i 0)) (z .c) 0 (now heads) (now nexts) × (t < 256) ⌝ }
-    requires { ⌜ (z .n ≤ length (now zeros)) × ((length (now ones) ≡ length (now zeros)) × ((z .n ≤ length (now forced0)) × ((z .n ≤ length (now forced1)) × (z .e ≤ length (now guards))))) ⌝ }
-    ensures { λ r. ⌜ ((expressions : List ℕ) → Turns (jobFrom (z .k) (z .n) (now (nodes .entry)) expressions (z .c) (now (clauses .entry))) (z .n) (z .e) t (now (guards .entry)) (now (zeros .entry)) (now (ones .entry)) (now (forced0 .exit)) (now (forced1 .exit)) r) ⌝ }
+    requires { ⌜ Wired (z .n) (now nodes) × Sorted (now nodes) (z .n) (now gates) (now starts) × Asking (z .n) (z .e) (z .c) (now clauses) × Chained (λ i. clauseOf (getD (now clauses) i 0)) (z .c) 0 (now heads) (now nexts) × (t < 256) ⌝ }
+    requires { ⌜ (z .n ≤ length (now zeros)) × ((length (now ones) ≡ length (now zeros)) × ((length (now forced0) ≡ length (now zeros)) × ((length (now forced1) ≡ length (now zeros)) × (z .e ≤ length (now guards))))) ⌝ }
+    requires { ⌜ (0 < t → Steady (now nodes) (z .n) (now zeros) (now ones)) × Steady (now nodes) (z .n) (now forced0) (now forced1) ⌝ }
+    ensures { λ r. ⌜ ((expressions : List ℕ) → Turns (jobFrom (z .k) (z .n) (now (nodes .entry)) expressions (z .c) (now (clauses .entry))) (z .n) (z .e) t (now (guards .entry)) (now (zeros .entry)) (now (ones .entry)) (now (forced0 .exit)) (now (forced1 .exit)) r) × Steady (now (nodes .entry)) (z .n) (now (zeros .exit)) (now (ones .exit)) × Steady (now (nodes .entry)) (z .n) (now (forced0 .exit)) (now (forced1 .exit)) ⌝ }
 {
     let collided = stimulate(z, clauses, heads, nexts, t, guards, zeros, ones);
     let missed = expect(z, clauses, heads, nexts, t, guards, zeros, ones);
-    step(nodes, z.n, zeros, ones, forced0, forced1);
+    step(gates, starts, zeros, ones, forced0, forced1);
+    renew(z, nodes, clauses, heads, nexts, t, zeros, ones);
     Told { collided, missed }
 }
 
@@ -182,6 +161,8 @@ fn turn(
 fn run(
     z: Size,
     nodes: &[u64],
+    gates: &[u64],
+    starts: &[usize],
     clauses: &[u64],
     heads: &[u16],
     nexts: &[u16],
@@ -192,11 +173,12 @@ fn run(
     zeros1: &mut [u64],
     ones1: &mut [u64],
 ) -> Told
-    requires { ⌜ Wired (z .n) (now nodes) × Asking (z .n) (z .e) (z .c) (now clauses) × Chained (λ i. clauseOf (getD (now clauses) i 0)) (z .c) 0 (now heads) (now nexts) × (last < 256) ⌝ }
-    requires { ⌜ (z .n ≤ length (now zeros)) × ((length (now ones) ≡ length (now zeros)) × ((z .n ≤ length (now zeros1)) × ((length (now ones1) ≡ length (now zeros1)) × (z .e ≤ length (now guards))))) ⌝ }
+    requires { ⌜ Wired (z .n) (now nodes) × Sorted (now nodes) (z .n) (now gates) (now starts) × Asking (z .n) (z .e) (z .c) (now clauses) × Chained (λ i. clauseOf (getD (now clauses) i 0)) (z .c) 0 (now heads) (now nexts) × (last < 256) ⌝ }
+    requires { ⌜ (z .n ≤ length (now zeros)) × ((length (now ones) ≡ length (now zeros)) × ((length (now zeros1) ≡ length (now zeros)) × ((length (now ones1) ≡ length (now zeros)) × (z .e ≤ length (now guards))))) ⌝ }
     requires { ⌜ Unknown (z .n) (now zeros) × Unknown (z .n) (now ones) ⌝ }
     ensures { λ r. ⌜ RanPast (z .k) (z .n) (z .e) (z .c) last (now (nodes .entry)) (now (clauses .entry)) (now (guards .entry)) r ⌝ }
 {
+    settle(nodes, z.n, zeros1, ones1);
     let mut collided: u64 = 0;
     let mut missed: u64 = 0;
     let mut t: usize = 0;
@@ -204,6 +186,8 @@ fn run(
         let a = turn(
             z,
             nodes,
+            gates,
+            starts,
             clauses,
             heads,
             nexts,
@@ -217,6 +201,8 @@ fn run(
         let b = turn(
             z,
             nodes,
+            gates,
+            starts,
             clauses,
             heads,
             nexts,
@@ -233,9 +219,6 @@ fn run(
     }
     Told { collided, missed }
 }
-
-// Every place of a word.
-const ALL: u64 = 0xFFFF_FFFF_FFFF_FFFF;
 
 // Sixty-four cases, from row 0 with every node X to the last time.
 pub fn group(
@@ -257,10 +240,15 @@ pub fn group(
     let mut ones = [ALL; 1008];
     let mut zeros1 = [0u64; 1008];
     let mut ones1 = [0u64; 1008];
+    let mut gates = [0u64; 6048];
+    let mut starts = [0usize; 10];
+    sort(nodes, z.n, &mut gates, &mut starts);
     guard_words(expressions, z.e, g, &mut guards);
     let told = run(
         z,
         nodes,
+        &gates,
+        &starts,
         clauses,
         heads,
         nexts,
