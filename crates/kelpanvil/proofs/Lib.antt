@@ -1,0 +1,4 @@
+pub mod TellLaws
+pub mod Printed
+pub mod Enough
+pub mod Determined

@@ -1,0 +1,8 @@
+pub mod DecimalLaws
+pub mod PutLaws
+pub mod GiveLaws
+pub mod ReadBack
+pub mod Apart
+pub mod OneLine
+pub mod Determined
+pub mod Examples

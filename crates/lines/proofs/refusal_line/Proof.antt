@@ -1,0 +1,11 @@
+-- `refusal_line`: the line in an array, and from there.
+-- Assumes nothing.
+use Rattle.lines.proofs.GiveLaws.{front-length, front-given}
+use borrow.Author.Needs.{needs}
+use Rattle.lines.proofs.refusal_line.Statement.{statement}
+use Rattle.lines.proofs.refusal_line.Tie as tie
+
+pub refusal-line-spec : {M : Type 1} → statement M
+refusal-line-spec =
+    tie.close
+    (tie.spec (λ c. search needs) (λ c κs. search needs) (λ c. search needs) (λ c. front-length (c .before .before .put-refusal .ensures)) (λ c κs. search needs) (λ c. search needs) (λ c. (front-given (c .before .before .before .before .before .before .put-refusal .ensures) (c .before .before .give .ensures), search needs)))
