@@ -1,0 +1,6 @@
+pub mod TellingLaws
+pub mod Determined
+pub mod Fits
+pub mod StoredFit
+pub mod RunsFit
+pub mod Apart

@@ -1,0 +1,4 @@
+pub mod Words
+pub mod Answer
+pub mod Told
+pub mod Steps
