@@ -1,4 +1,4 @@
-/* Kelpanvil's six operations on stored jobs, for C and C++. docs/BOUNDARY.md is the page that goes with it.
+/* Kelpanvil's operations on stored jobs and on assertion texts, for C and C++. docs/BOUNDARY.md is the page that goes with it.
  *
  * Numbers and bytes pass, nothing else. A slice is a pointer and its length in bytes. No pointer may be null, not
  * even where the length is 0. What an operation may write (not const) may not overlap anything else passed to it.
@@ -16,7 +16,7 @@
 
 enum kelpanvil_word {
     KELPANVIL_DONE = 1,
-    KELPANVIL_REFUSED = 2, /* number, block, record */
+    KELPANVIL_REFUSED = 2, /* number, block, record; of a text: number, and the byte's low and high four bytes */
     KELPANVIL_PASSES = 3,
     KELPANVIL_EMPTY = 4,
     KELPANVIL_FAILS = 5,
@@ -57,6 +57,14 @@ size_t kelpanvil_one_case(const uint8_t *job, size_t job_length, size_t case_num
 /* The whole job. HOLDS, VACANT and FAILS: cases, passing, failing, empty. Then VACANT: case, time, node; and FAILS:
  * case, time, node, wanted, found. */
 size_t kelpanvil_check(const uint8_t *job, size_t job_length, uint8_t *answer, size_t answer_length);
+
+/* An assertion's text (docs/ASSERTIONS.md) for k variables and n nodes: its records, eight bytes each, at the start of
+ * two lists. DONE: expressions, clauses. 504 records always suffice. */
+size_t kelpanvil_text(size_t k, size_t n,
+                      const uint8_t *text, size_t text_length,
+                      uint8_t *expressions, size_t expressions_length,
+                      uint8_t *clauses, size_t clauses_length,
+                      uint8_t *answer, size_t answer_length);
 
 #ifdef __cplusplus
 }

@@ -85,7 +85,7 @@ module _ (done fails : ℕ) (d : done ≤ 9) (f : fails ≤ 9) (a b : Stated) (p
   numbers-same : a .numbers ≡ b .numbers
   numbers-same = ext-getD 0 (a .numbers) (b .numbers) length-same (λ i h. ten-same (suc i) (omega (arith, p .counted, count-most done fails d f (a .word))))
 
-  answer-same : a ≡ b
+  pub answer-same : a ≡ b
   answer-same = λ i. record { word = word-same i; numbers = numbers-same i }
 
 -- the bytes that an operation tells determine its answer

@@ -4,3 +4,4 @@ pub mod Fits
 pub mod StoredFit
 pub mod RunsFit
 pub mod Apart
+pub mod TextLaws

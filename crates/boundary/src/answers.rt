@@ -1,4 +1,5 @@
 // The ten numbers of each answer: its word's number, its own numbers, then zeros.
+use assertions::TextRead;
 use meaning::CaseAnswer;
 use meaning::Counts;
 use meaning::JobAnswer;
@@ -15,6 +16,7 @@ ghost use Rattle.stored.specs.Reading.{refused, statedRead};
 ghost use Rattle.stored.specs.Packing.{written, statedPacked};
 ghost use Rattle.verdicts.specs.Running.{statedChecked, statedCaseChecked, statedRow};
 ghost use Rattle.boundary.specs.Answer.{tenNumbers};
+ghost use Rattle.boundary.specs.Texts.{statedText};
 
 const DONE: usize = 1;
 
@@ -147,5 +149,28 @@ pub fn of_checked(answer: Checked) -> [usize; 10]
     match answer {
         Checked::Answered(a) => of_job_answer(a),
         Checked::Refused(r) => of_refusal(r),
+    }
+}
+
+pub fn of_text(answer: TextRead) -> [usize; 10]
+    ensures { λ numbers. ⌜ numbers ≡ tenNumbers (statedText answer) ⌝ }
+{
+    match answer {
+        TextRead::Written {
+            expressions,
+            clauses,
+        } => [DONE, expressions, clauses, 0, 0, 0, 0, 0, 0, 0],
+        TextRead::Refused { number, byte } => [
+            REFUSED,
+            number,
+            byte % 4294967296,
+            byte / 4294967296,
+            0,
+            0,
+            0,
+            0,
+            0,
+            0,
+        ],
     }
 }

@@ -5,3 +5,4 @@ pub mod packing;
 pub mod rows;
 mod telling;
 pub mod unpacking;
+pub mod wordings;

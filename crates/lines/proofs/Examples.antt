@@ -2,8 +2,8 @@
 -- Assumes nothing.
 use mathlib.Core.Path.{_≡_, refl}
 use Rattle.meaning.specs.declared.JobAnswer.the-variants.{Holds, Fails, Vacant}
-use Rattle.lines.specs.Texts.{text}
-use Rattle.lines.specs.Decimals.{digits, decimal}
+use Rattle.texts.specs.Texts.{text}
+use Rattle.texts.specs.Decimals.{digits, decimal}
 use Rattle.lines.specs.Lines.{field, counts, place, value, missed, verdictLine, refusalLine}
 
 -- the flag job, P8 and P9 of 01

@@ -1,29 +1,21 @@
 -- A line given whole, or not at all.
 -- Assumes nothing.
 use borrow.Author.Tests.{le-leb, lt-leb}
-use mathlib.Core.Path.{_≡_, sym, _∙_, ap, subst}
-use mathlib.Core.List.{List, _++_}
+use mathlib.Core.Path.{subst}
+use mathlib.Core.List.{List}
 use native.Mathlib.Omega.{arith}
 use Prim.Native.Nat.{ℕ, _≤_, _<_}
-use lib.ListN.{length, take, drop}
-use lib.Seq.{length-take-le, take-at}
-use Rattle.lines.specs.Written.{Puts, Gives}
+use lib.ListN.{length, take}
+use Rattle.texts.specs.Putting.{Puts}
+use Rattle.texts.proofs.PutLaws.{front-is, front-all}
+use Rattle.lines.specs.Written.{Gives}
 
 pub gives-none : (line out : List ℕ) → length out < length line → Gives line out out 0
 gives-none line out h = record { count = rw (lt-leb _ _ h); out-is = rw (lt-leb _ _ h) }
 
 pub gives-all : {line out out′ : List ℕ} {n : ℕ} → length line ≤ length out → Puts line 0 out out′ n → Gives line out out′ n
-gives-all {line} {out} {out′} {n} h p =
-    let e : n ≡ length line = omega (arith, p .end-is) in
-    record { count = rw (le-leb _ _ h) e; out-is = rw (le-leb _ _ h) (p .is ∙ ap (λ k. line ++ drop k out) e) }
+gives-all h p = record { count = rw (le-leb _ _ h) (omega (arith, p .end-is)); out-is = rw (le-leb _ _ h) (front-all p) }
 
 -- a line put at the front of an array, and given from there
-module _ {line d d′ : List ℕ} {end : ℕ} (p : Puts line 0 d d′ end) where
-  front-fits : end ≤ length d′
-  front-fits = omega (arith, p .fits, p .size)
-
-  pub front-length : end ≡ length (take end d′)
-  front-length = sym (length-take-le end d′ front-fits)
-
-  pub front-given : {out out′ : List ℕ} {n : ℕ} → Gives (take end d′) out out′ n → Gives line out out′ n
-  front-given {out} {out′} {n} = subst (λ s. Gives s out out′ n) (ap (take end) (p .is) ∙ take-at line (drop end d) end (omega (arith, p .end-is)))
+pub front-given : {line d d′ out out′ : List ℕ} {end n : ℕ} → Puts line 0 d d′ end → Gives (take end d′) out out′ n → Gives line out out′ n
+front-given {out = out} {out′} {n = n} p = subst (λ s. Gives s out out′ n) (front-is p)

@@ -1,5 +1,4 @@
-pub mod DecimalLaws
-pub mod PutLaws
+pub mod Known
 pub mod GiveLaws
 pub mod ReadBack
 pub mod Apart

@@ -13,10 +13,10 @@ use Rattle.scans.proofs.Bools.{and-left, and-right}
 use Rattle.meaning.specs.declared.Counts.{Counts}
 use Rattle.meaning.specs.declared.JobAnswer.{JobAnswer}
 use Rattle.meaning.specs.declared.JobAnswer.the-variants.{Holds, Fails, Vacant}
-use Rattle.lines.specs.Texts.{text}
-use Rattle.lines.specs.Decimals.{digit, decimal}
+use Rattle.texts.specs.Texts.{text}
+use Rattle.texts.specs.Decimals.{digit, decimal}
 use Rattle.lines.specs.Lines.{field, value, counts, place, missed, verdictLine, refusalLine}
-use Rattle.lines.proofs.DecimalLaws.{decimal-small, decimal-more}
+use Rattle.texts.proofs.DecimalLaws.{decimal-small, decimal-more}
 
 -- from the space to the tilde
 pub data Printable : List ℕ → Type 0 where

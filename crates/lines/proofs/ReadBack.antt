@@ -20,10 +20,10 @@ use Rattle.stored.specs.Reading.{refused}
 use Rattle.verdicts.specs.declared.Checked.{Checked}
 use Rattle.verdicts.specs.declared.Checked.the-variants.{Answered, Refused}
 use Rattle.verdicts.specs.Running.{statedChecked}
-use Rattle.lines.specs.Texts.{text}
-use Rattle.lines.specs.Decimals.{digit, decimal}
+use Rattle.texts.specs.Texts.{text}
+use Rattle.texts.specs.Decimals.{digit, decimal}
 use Rattle.lines.specs.Lines.{field, value, counts, place, missed, verdictLine, refusalLine, checkedLine}
-use Rattle.lines.proofs.DecimalLaws.{decimal-small, decimal-more}
+use Rattle.texts.proofs.DecimalLaws.{decimal-small, decimal-more}
 
 isDigit : ℕ → Bool
 isDigit b = leb 48 b && ltb b 58

@@ -1,4 +1,2 @@
-pub mod Texts
-pub mod Decimals
 pub mod Lines
 pub mod Written

@@ -10,8 +10,8 @@ use Rattle.meaning.specs.declared.JobAnswer.{JobAnswer}
 use Rattle.meaning.specs.declared.JobAnswer.the-variants.{Holds, Fails, Vacant}
 use Rattle.verdicts.specs.declared.Checked.{Checked}
 use Rattle.verdicts.specs.declared.Checked.the-variants.{Answered, Refused}
-use Rattle.lines.specs.Texts.{text}
-use Rattle.lines.specs.Decimals.{decimal}
+use Rattle.texts.specs.Texts.{text}
+use Rattle.texts.specs.Decimals.{decimal}
 
 -- a name, with what stands around it, and a number
 unfoldable pub field : String → ℕ → List ℕ

@@ -2,16 +2,17 @@
 mod pieces;
 
 use crate::pieces::put_field;
-use crate::pieces::put_text;
 use crate::pieces::put_value;
 use meaning::Counts;
 use meaning::JobAnswer;
 use stored::Refusal;
+use texts::put_text;
 ghost use mathlib.Core.List.{_++_};
 ghost use Prim.Native.Nat.{_+_, _≤_};
 ghost use lib.ListN.{length};
 ghost use Rattle.lines.specs.Lines.{counts as countsText, place, missed, verdictLine, refusalLine};
-ghost use Rattle.lines.specs.Written.{Puts, Gives};
+ghost use Rattle.texts.specs.Putting.{Puts};
+ghost use Rattle.lines.specs.Written.{Gives};
 
 // A verdict's word and the counts, at the front.
 fn put_counts(word: &[u8], counts: Counts, line: &mut [u8]) -> usize

@@ -1,6 +1,6 @@
 -- `put_missed`: a field, a text and a value.
 -- Assumes nothing.
-use Rattle.lines.proofs.PutLaws.{puts-then}
+use Rattle.texts.proofs.PutLaws.{puts-then}
 use Rattle.lines.specs.Lines.{field, missed}
 use borrow.Author.Needs.{needs}
 use Rattle.lines.proofs.put_missed.Statement.{statement}

@@ -1,6 +1,6 @@
 -- `put_refusal`: three fields and the newline.
 -- Assumes nothing.
-use Rattle.lines.proofs.PutLaws.{puts-then}
+use Rattle.texts.proofs.PutLaws.{puts-then}
 use Rattle.lines.specs.Lines.{field, refusalLine}
 use borrow.Author.Needs.{needs}
 use Rattle.lines.proofs.put_refusal.Statement.{statement}

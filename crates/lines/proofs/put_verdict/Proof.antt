@@ -1,6 +1,7 @@
 -- `put_verdict`: the pieces of each answer's line.
 -- Assumes nothing.
-use Rattle.lines.proofs.PutLaws.{puts-then, puts-known}
+use Rattle.texts.proofs.PutLaws.{puts-then}
+use Rattle.lines.proofs.Known.{puts-known}
 use Rattle.lines.specs.Lines.{verdictLine}
 use borrow.Author.Needs.{needs}
 use Rattle.lines.proofs.put_verdict.Statement.{statement}

@@ -1,6 +1,7 @@
 -- `refusal_line`: the line in an array, and from there.
 -- Assumes nothing.
-use Rattle.lines.proofs.GiveLaws.{front-length, front-given}
+use Rattle.texts.proofs.PutLaws.{front-length}
+use Rattle.lines.proofs.GiveLaws.{front-given}
 use borrow.Author.Needs.{needs}
 use Rattle.lines.proofs.refusal_line.Statement.{statement}
 use Rattle.lines.proofs.refusal_line.Tie as tie

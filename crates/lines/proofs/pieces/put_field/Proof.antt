@@ -1,7 +1,7 @@
 -- `put_field`: a text, then a number of at most twenty digits.
 -- Assumes nothing.
-use Rattle.lines.proofs.DecimalLaws.{decimal-length}
-use Rattle.lines.proofs.PutLaws.{puts-then}
+use Rattle.texts.proofs.DecimalLaws.{decimal-length}
+use Rattle.texts.proofs.PutLaws.{puts-then}
 use borrow.Author.Needs.{needs}
 use native.Mathlib.Omega.{arith}
 use Rattle.lines.proofs.pieces.put_field.Statement.{statement}

@@ -1,7 +1,7 @@
 -- `put_value`: X, or a number.
 -- Assumes nothing.
 use borrow.Author.Tests.{eq-eqb, ne-eqb}
-use Rattle.lines.proofs.DecimalLaws.{decimal-length}
+use Rattle.texts.proofs.DecimalLaws.{decimal-length}
 use Rattle.lines.specs.Lines.{value}
 use borrow.Author.Needs.{needs}
 use native.Mathlib.Omega.{arith}

@@ -1,0 +1,4 @@
+pub mod Answering
+pub mod ClausesRead
+pub mod ListsRead
+pub mod TextsRead

@@ -1,0 +1,1 @@
+// The grammar of an assertion's text: definitions and laws only.

@@ -1,0 +1,9 @@
+pub mod Gapped
+pub mod Standing
+pub mod Feeding
+pub mod Stopping
+pub mod WordRuns
+pub mod OperandLaws
+pub mod FrameLaws
+pub mod LevelLaws
+pub mod ChainLaws
