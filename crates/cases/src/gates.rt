@@ -45,7 +45,16 @@ fn mux_byte(p: u8, q: u8, r: u8) -> u8
     requires { ⌜ (p < 3) × ((q < 3) × (r < 3)) ⌝ }
     ensures { λ new. ⌜ new ≡ number (muxOf (valueOf p) (valueOf q) (valueOf r)) ⌝ }
 {
-    or_byte(and_byte(p, q), and_byte(not_byte(p), r))
+    if q == r {
+        return q;
+    }
+    if p == 1 {
+        return q;
+    }
+    if p == 0 {
+        return r;
+    }
+    2
 }
 
 // INPUT, and any code that no gate has, forces nothing.

@@ -1,9 +1,10 @@
 -- The nine gates, and what each forces one step later.
 -- Assumes nothing.
+use mathlib.Core.Bool.{cond}
 use mathlib.Core.List.{List, [], _∷_}
 use Prim.Native.Nat.{ℕ}
 use lib.ListN.{getD}
-use Rattle.meaning.specs.Values.{Value, v0, v1, vX}
+use Rattle.meaning.specs.Values.{Value, v0, v1, vX, sameValue}
 
 pub data Gate : Type 0 where
   INPUT ZERO ONE BUF NOT AND OR XOR MUX : Gate
@@ -55,9 +56,15 @@ xorOf v0 q = q
 xorOf v1 q = notOf q
 xorOf vX q = vX
 
--- OR of (p AND q) and (NOT p AND r)
+-- by the select: q where it is 1, r where it is 0, else X
+abbrev pub selectOf : Value → Value → Value → Value
+selectOf v0 q r = r
+selectOf v1 q r = q
+selectOf vX q r = vX
+
+-- q where q equals r, else by the select
 abbrev pub muxOf : Value → Value → Value → Value
-muxOf p q r = orOf (andOf p q) (andOf (notOf p) r)
+muxOf p q r = cond (sameValue q r) q (selectOf p q r)
 
 -- what a gate forces from the values of p, q and r; those that it lacks are not looked at
 unfoldable pub gateForces : Gate → Value → Value → Value → Value

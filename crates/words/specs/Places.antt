@@ -76,4 +76,4 @@ abbrev pub xorBits : Bits → Bits → Bits
 xorBits p q = record { zero = p .zero && q .zero || p .one && q .one; one = p .zero && q .one || p .one && q .zero }
 
 abbrev pub muxBits : Bits → Bits → Bits → Bits
-muxBits p q r = orBits (andBits p q) (andBits (notBits p) r)
+muxBits p q r = record { zero = p .one && q .zero || p .zero && r .zero; one = p .one && q .one || p .zero && r .one }

@@ -100,7 +100,10 @@ fn xor_pair(p: Pair, q: Pair) -> Pair
 fn mux_pair(p: Pair, q: Pair, r: Pair) -> Pair
     ensures { λ new. ⌜ ((i : ℕ) → bitsAt new i ≡ muxBits (bitsAt p i) (bitsAt q i) (bitsAt r i)) ⌝ }
 {
-    or_pair(and_pair(p, q), and_pair(not_pair(p), r))
+    Pair {
+        zeros: (p.ones & q.zeros) | (p.zeros & r.zeros),
+        ones: (p.ones & q.ones) | (p.zeros & r.ones),
+    }
 }
 
 // What the gate of a code forces. INPUT, and any code that no gate has, forces nothing: it could be either.

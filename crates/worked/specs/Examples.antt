@@ -38,7 +38,7 @@ table =
     gate AND v0 vX vX v0  -- P1
     ∷ gate OR vX v1 vX v1  -- P2
     ∷ gate XOR vX vX vX vX  -- P3
-    ∷ gate MUX vX v1 v1 vX  -- P4
+    ∷ gate MUX vX v1 v1 v1  -- P4
     ∷ gate MUX vX v0 v0 v0  -- P5
     ∷ oneCase flag 0 (Fails 1 1 0 2)  -- P6
     ∷ check flag (JobAnswer.Fails (counts 2 1 1 0) 0 1 1 0 2)

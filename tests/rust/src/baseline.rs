@@ -178,7 +178,7 @@ impl Netlist {
         for &[node, p, q, r] in &self.muxes {
             let (p, q, r) = (from[index(p)], from[index(q)], from[index(r)]);
             to[index(node)] = Pair {
-                zero: (p.zero | q.zero) & (p.one | r.zero),
+                zero: p.one & q.zero | p.zero & r.zero,
                 one: p.one & q.one | p.zero & r.one,
             };
         }

@@ -34,7 +34,7 @@ mistakes! {
     WantedPrefersOne
     HighestCollidingNode
     FirstCollidingClause
-    MuxOfEqualsIsKnown
+    MuxOfOnesIsUnknown
     WireAgainstItselfIsKnown
     OneStepShort
     TimeZeroOnly
@@ -279,7 +279,11 @@ fn first_row(job: &Job) -> Vec<Value> {
 
 fn forced_by(gate: &Gate, row: &[Value]) -> Value {
     match *gate {
-        Gate::Mux(_, q, r) if making(MuxOfEqualsIsKnown) && row[q] == row[r] => row[q],
+        Gate::Mux(p, q, r)
+            if making(MuxOfOnesIsUnknown) && row[p] == X && row[q] == One && row[r] == One =>
+        {
+            X
+        }
         Gate::Xor(p, q) if making(WireAgainstItselfIsKnown) && p == q => Zero,
         _ => runs::forced_by(gate, row),
     }

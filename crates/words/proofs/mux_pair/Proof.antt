@@ -1,10 +1,12 @@
--- `mux_pair` at a place, from the gates it is made of.
+-- `mux_pair` at a place.
 -- Assumes nothing.
-use borrow.Author.Needs.{needs}
+use Rattle.words.specs.Places.{bitsAt}
+use Rattle.words.proofs.Bits.{bit-and, bit-or}
 use Rattle.words.proofs.mux_pair.Statement.{statement}
 use Rattle.words.proofs.mux_pair.Tie as tie
 
 pub mux-pair-spec : {M : Type 1} → statement M
+unfolding bitsAt
 mux-pair-spec =
     tie.close
-    (tie.spec (λ c κs. search needs) (λ c κs. search needs) (λ c κs. search needs) (λ c κs. search needs) (λ c i. rw (c .or-pair .ensures i, c .before .and-pair2 .ensures i, c .before .before .not-pair .ensures i, c .before .before .before .and-pair .ensures i)))
+    (tie.spec (λ c i. simp (bit-and, bit-or)))

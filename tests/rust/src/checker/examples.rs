@@ -67,7 +67,7 @@ fn p1_to_p5_gates() {
     assert_eq!(and(Zero, X), Zero);
     assert_eq!(or(X, One), One);
     assert_eq!(xor(X, X), X);
-    assert_eq!(mux(X, One, One), X);
+    assert_eq!(mux(X, One, One), One);
     assert_eq!(mux(X, Zero, Zero), Zero);
 }
 

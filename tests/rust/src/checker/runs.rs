@@ -74,7 +74,12 @@ pub fn xor(p: Value, q: Value) -> Value {
 }
 
 pub fn mux(p: Value, q: Value, r: Value) -> Value {
-    or(and(p, q), and(not(p), r))
+    match p {
+        _ if q == r => q,
+        One => q,
+        Zero => r,
+        X => X,
+    }
 }
 
 /// What a gate forces one step after the row.

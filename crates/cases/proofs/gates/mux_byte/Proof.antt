@@ -1,13 +1,10 @@
--- `mux_byte` is made of the tables.
+-- `mux_byte`: equal sides, else by the select.
 -- Assumes nothing.
-use Rattle.meaning.specs.Gates.{notOf, andOf}
-use Rattle.cases.specs.Forced.{valueOf}
-use Rattle.cases.proofs.GateLaws.{below, mux-is}
-use borrow.Author.Needs.{needs}
+use Rattle.cases.proofs.GateLaws.{mux-same, mux-one, mux-zero, mux-unknown}
 use Rattle.cases.proofs.gates.mux_byte.Statement.{statement}
 use Rattle.cases.proofs.gates.mux_byte.Tie as tie
 
 pub mux-byte-spec : {M : Type 1} → statement M
 mux-byte-spec =
     tie.close
-    (tie.spec (λ c κs. search needs) (λ c κs. search needs) (λ c κs. (below (notOf (valueOf (c .before .before .args .p))) (c .not-byte .ensures), search needs)) (λ c κs. (below (andOf (valueOf (c .before .before .before .args .p)) (valueOf (c .before .before .before .args .q))) (c .before .before .and-byte .ensures), below (andOf (valueOf (c .before .not-byte .result)) (valueOf (c .before .before .before .args .r))) (c .and-byte2 .ensures))) (λ c. mux-is (c .before .before .before .before .args .p) (c .before .before .before .before .args .q) (c .before .before .before .before .args .r) (c .before .before .before .and-byte .ensures) (c .before .before .not-byte .ensures) (c .before .and-byte2 .ensures) (c .or-byte .ensures)))
+    (tie.spec (λ c. mux-same (c .before .args .p) (c .before .args .q) (c .before .args .r) (c .before .pre .0) (c .before .pre .1 .0) (c .before .pre .1 .1) (c .if1 .taken)) (λ c. mux-one (c .before .before .args .p) (c .before .before .args .q) (c .before .before .args .r) (c .before .before .pre .0) (c .before .before .pre .1 .0) (c .before .before .pre .1 .1) (c .before .if1 .left) (c .if2 .taken)) (λ c. mux-zero (c .before .before .before .args .p) (c .before .before .before .args .q) (c .before .before .before .args .r) (c .before .before .before .pre .0) (c .before .before .before .pre .1 .0) (c .before .before .before .pre .1 .1) (c .before .before .if1 .left) (c .if3 .taken)) (λ c. mux-unknown (c .before .before .before .args .p) (c .before .before .before .args .q) (c .before .before .before .args .r) (c .before .before .before .pre .0) (c .before .before .before .pre .1 .0) (c .before .before .before .pre .1 .1) (c .before .before .if1 .left) (c .before .if2 .left) (c .if3 .left)))
