@@ -1,16 +1,18 @@
--- Words that stand in a table: the variables, and the places in use.
+-- Words by a formula or in a table: the variables, and the places in use.
 -- Assumes nothing.
-use mathlib.Core.Path.{_≡_, refl, sym, _∙_}
+use mathlib.Core.Path.{_≡_, refl, sym, _∙_, ap}
 use mathlib.Core.Bool.{Bool, true, false, Bool·beq}
 use mathlib.Core.List.{List, [], _∷_}
-use Prim.Native.Nat.{ℕ, _-_, _/_, _^_, _≤_, _<_}
+use Prim.Native.Nat.{ℕ, _+_, _*_, _-_, _/_, _%_, _^_, _≤_, _<_}
 use native.Mathlib.Omega.{arith}
-use borrow.Author.Tests.{lt-ltb}
+use borrow.Author.Tests.{lt-ltb, ltb-true}
 use lib.Bits.{bitAnd}
 use lib.Dec.{T, ltb}
 use lib.ListN.{length, getD}
 use lib.Pow.{pow-mono}
 use Rattle.scans.specs.First.{firstBad, each}
+use Rattle.scans.specs.Lists.{listOf}
+use Rattle.scans.proofs.Lists.{listOf-at}
 use Rattle.scans.proofs.Bools.{of-true}
 use Rattle.scans.proofs.Search.{each-e}
 use Rattle.meaning.specs.Guards.{bitOf}
@@ -32,15 +34,31 @@ table-at rule words t n i h l =
     let row : T (each (λ i. Bool·beq (bitOf (getD words n 0) i) (rule n i)) 64) = of-true _ (each-e (λ n. each (λ i. Bool·beq (bitOf (getD words n 0) i) (rule n i)) 64) (length words) t n h) in
     same _ _ (of-true _ (each-e (λ i. Bool·beq (bitOf (getD words n 0) i) (rule n i)) 64 row i l))
 
--- the words of variables 0 to 5
-abbrev variables : List ℕ
-variables =
-    0xAAAA_AAAA_AAAA_AAAA ∷ 0xCCCC_CCCC_CCCC_CCCC ∷ 0xF0F0_F0F0_F0F0_F0F0 ∷ 0xFF00_FF00_FF00_FF00 ∷ 0xFFFF_0000_FFFF_0000
-    ∷ 0xFFFF_FFFF_0000_0000 ∷ []
+-- the word of a variable below 6 as the code works it out: how long its runs are, and the word
+abbrev run : ℕ → ℕ
+run v = 1 * 2 ^ v % 2 ^ 64
 
-pub variable-in : {g v : ℕ} → v < 6 → VariableWord g v (getD variables v 0)
-unfolding firstBad each bitOf
-variable-in {g} {v} h = record { at = λ i l. table-at (λ v i. bitOf i v) variables tt v i h l ∙ sym (bit-in-place g i l v h) }
+abbrev step : ℕ → ℕ
+step v = 1 * 2 ^ run v % 2 ^ 64 + 1
+
+abbrev formula : ℕ → ℕ
+formula v = (2 ^ 64 - 1) / step v * 2 ^ run v % 2 ^ 64
+
+tested : (f : ℕ → Bool) → T (each f 6) → (v : ℕ) → v < 6 → f v ≡ true
+tested f t v h = each-e f 6 t v h
+
+pub run-below : (v : ℕ) → v < 6 → run v < 64
+unfolding firstBad each
+run-below v h = ltb-true (run v) 64 (tested (λ v. ltb (run v) 64) tt v h)
+
+pub step-fits : (v : ℕ) → v < 6 → step v < 2 ^ 64
+unfolding firstBad each
+step-fits v h = ltb-true (step v) (2 ^ 64) (tested (λ v. ltb (step v) (2 ^ 64)) tt v h)
+
+pub variable-in : (v : ℕ) → v < 6 → (g : ℕ) → VariableWord g v (formula v)
+unfolding firstBad each bitOf listOf
+variable-in v h g =
+    record { at = λ i l. ap (λ w. bitOf w i) (sym (listOf-at formula 6 v h)) ∙ table-at (λ v i. bitOf i v) (listOf formula 6) tt v i h l ∙ sym (bit-in-place g i l v h) }
 
 -- from variable 6 on a word is all or nothing, by the group's bit as the code takes it
 pub variable-set : {g v : ℕ} → 6 ≤ v → bitAnd (g / 2 ^ (v - 6)) 1 ≡ 1 → VariableWord g v (2 ^ 64 - 1)

@@ -14,18 +14,18 @@ pub struct Pair {
 // Every place.
 const ALL: u64 = 0xFFFF_FFFF_FFFF_FFFF;
 
-// Variables 0 to 5 at the 64 places of a word.
-const VARIABLES: [u64; 6] = [
-    0xAAAA_AAAA_AAAA_AAAA,
-    0xCCCC_CCCC_CCCC_CCCC,
-    0xF0F0_F0F0_F0F0_F0F0,
-    0xFF00_FF00_FF00_FF00,
-    0xFFFF_0000_FFFF_0000,
-    0xFFFF_FFFF_0000_0000,
-];
-
 // The low 2^k places of a word, for k below 6.
 const LOW: [u64; 6] = [0x1, 0x3, 0xF, 0xFF, 0xFFFF, 0xFFFF_FFFF];
+
+// The word of a variable below 6: runs of 2^v places, clear and set in turn. All places divided by 2^(2^v) + 1 are the runs that are set, one run
+// too low.
+fn variable_within(v: usize) -> u64
+    requires { ⌜ v < 6 ⌝ }
+    ensures { λ r. ⌜ ((g : ℕ) → VariableWord g v r) ⌝ }
+{
+    let run = 1u64 << v;
+    ALL / ((1u64 << run) + 1) << run
+}
 
 // The word of variable `v` in group `g`. From variable 6 on, the whole group agrees on it.
 pub fn variable_word(g: usize, v: usize) -> u64
@@ -33,7 +33,7 @@ pub fn variable_word(g: usize, v: usize) -> u64
     ensures { λ r. ⌜ VariableWord g v r ⌝ }
 {
     if v < 6 {
-        return VARIABLES[v];
+        return variable_within(v);
     }
     if (g >> (v - 6)) & 1 == 1 { ALL } else { 0 }
 }

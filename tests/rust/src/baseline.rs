@@ -26,14 +26,11 @@ pub type Row = [Pair; ROOM];
 
 pub const UNKNOWN_ROW: Row = [UNKNOWN; ROOM];
 
-const VARIABLES: [u64; 6] = [
-    0xAAAA_AAAA_AAAA_AAAA,
-    0xCCCC_CCCC_CCCC_CCCC,
-    0xF0F0_F0F0_F0F0_F0F0,
-    0xFF00_FF00_FF00_FF00,
-    0xFFFF_0000_FFFF_0000,
-    0xFFFF_FFFF_0000_0000,
-];
+/// The word of a variable below 6: runs of 2^i places, clear and set in turn.
+fn variable(i: usize) -> u64 {
+    let run = 1_u64 << i;
+    (!0 / ((1 << run) + 1)) << run
+}
 
 /// The node forced, then its operands.
 type One = [u16; 2];
@@ -192,7 +189,7 @@ pub fn guard_words(expressions: &[Expression], group: usize, words: &mut Vec<u64
         let word = match *expression {
             Expression::False => 0,
             Expression::True => !0,
-            Expression::Variable(i) if i < 6 => VARIABLES[i],
+            Expression::Variable(i) if i < 6 => variable(i),
             Expression::Variable(i) => 0_u64.wrapping_sub((group >> (i - 6) & 1) as u64),
             Expression::Not(a) => !words[a],
             Expression::And(a, b) => words[a] & words[b],
