@@ -1,12 +1,17 @@
-//! The mock as a static library with the product's names. MISTAKE in the environment chooses what it gets wrong.
+//! The mock as a static library with the product's names. MISTAKE in the environment chooses what it gets wrong, and
+//! TEXT_MISTAKE what it gets wrong with texts.
 
 use second::mock;
+use second::texts;
 use std::sync::Once;
 
 static START: Once = Once::new();
 
 fn start() {
-    START.call_once(mock::choose_from_environment);
+    START.call_once(|| {
+        mock::choose_from_environment();
+        texts::mistakes::choose_from_environment();
+    });
 }
 
 #[no_mangle]
@@ -123,4 +128,32 @@ pub unsafe extern "C" fn kelpanvil_check(
 ) -> usize {
     start();
     mock::check(job, job_length, answer, answer_length)
+}
+
+#[no_mangle]
+pub unsafe extern "C" fn kelpanvil_text(
+    k: usize,
+    n: usize,
+    text: *const u8,
+    text_length: usize,
+    expressions: *mut u8,
+    expressions_length: usize,
+    clauses: *mut u8,
+    clauses_length: usize,
+    answer: *mut u8,
+    answer_length: usize,
+) -> usize {
+    start();
+    texts::mock::text(
+        k,
+        n,
+        text,
+        text_length,
+        expressions,
+        expressions_length,
+        clauses,
+        clauses_length,
+        answer,
+        answer_length,
+    )
 }

@@ -1,4 +1,4 @@
-//! The product's six C functions. A slice is a pointer and a length.
+//! The product's seven C functions. A slice is a pointer and a length.
 
 pub type Sizes = unsafe extern "C" fn(*const u8, usize, *mut u8, usize) -> usize;
 pub type Unpack = unsafe extern "C" fn(
@@ -30,6 +30,18 @@ pub type Row =
     unsafe extern "C" fn(*const u8, usize, usize, usize, *mut u8, usize, *mut u8, usize) -> usize;
 pub type OneCase = unsafe extern "C" fn(*const u8, usize, usize, *mut u8, usize) -> usize;
 pub type Check = unsafe extern "C" fn(*const u8, usize, *mut u8, usize) -> usize;
+pub type Text = unsafe extern "C" fn(
+    usize,
+    usize,
+    *const u8,
+    usize,
+    *mut u8,
+    usize,
+    *mut u8,
+    usize,
+    *mut u8,
+    usize,
+) -> usize;
 
 #[derive(Clone, Copy)]
 pub struct Library {
@@ -39,6 +51,7 @@ pub struct Library {
     pub row: Row,
     pub one_case: OneCase,
     pub check: Check,
+    pub text: Text,
 }
 
 /// The product's library, if this was built with BOUNDARY_DIR set.
@@ -51,6 +64,7 @@ pub fn linked() -> Option<Library> {
         row: product::kelpanvil_row,
         one_case: product::kelpanvil_one_case,
         check: product::kelpanvil_check,
+        text: product::kelpanvil_text,
     })
 }
 
@@ -108,5 +122,17 @@ mod product {
             answer_length: usize,
         ) -> usize;
         pub fn kelpanvil_check(job: *const u8, l: usize, answer: *mut u8, m: usize) -> usize;
+        pub fn kelpanvil_text(
+            k: usize,
+            n: usize,
+            text: *const u8,
+            text_length: usize,
+            expressions: *mut u8,
+            expressions_length: usize,
+            clauses: *mut u8,
+            clauses_length: usize,
+            answer: *mut u8,
+            answer_length: usize,
+        ) -> usize;
     }
 }

@@ -6,20 +6,20 @@ use crate::generate::random::Random;
 use crate::generate::spread::Spread;
 
 const GUARD: usize = 64;
-const MOST_COMPLAINTS: usize = 5;
+pub(crate) const MOST_COMPLAINTS: usize = 5;
 
 /// Memory lent to a call: guard bytes, the bytes lent, guard bytes again.
-struct Lent {
+pub(crate) struct Lent {
     name: &'static str,
     bytes: Vec<u8>,
     before: Vec<u8>,
     start: usize,
-    length: usize,
+    pub(crate) length: usize,
 }
 
 impl Lent {
     /// The fill differs from call to call, so that no wrong write can always happen to fit it.
-    fn room(name: &'static str, length: usize, fill: &mut Random) -> Lent {
+    pub(crate) fn room(name: &'static str, length: usize, fill: &mut Random) -> Lent {
         let start = GUARD + fill.below(8);
         let mut bytes = Vec::with_capacity(start + length + GUARD + 8);
         while bytes.len() < start + length + GUARD {
@@ -34,20 +34,20 @@ impl Lent {
         }
     }
 
-    fn holding(name: &'static str, content: &[u8], fill: &mut Random) -> Lent {
+    pub(crate) fn holding(name: &'static str, content: &[u8], fill: &mut Random) -> Lent {
         let mut lent = Lent::room(name, content.len(), fill);
         lent.bytes[lent.start..lent.start + content.len()].copy_from_slice(content);
         lent.before = lent.bytes.clone();
         lent
     }
 
-    fn at(&mut self) -> *mut u8 {
+    pub(crate) fn at(&mut self) -> *mut u8 {
         // inside the allocation, since the guard bytes stand on both sides
         unsafe { self.bytes.as_mut_ptr().add(self.start) }
     }
 
     /// Where these bytes differ from those before the call with `written` at their start.
-    fn difference(&self, written: &[u8]) -> Option<String> {
+    pub(crate) fn difference(&self, written: &[u8]) -> Option<String> {
         let mut expected = self.before.clone();
         expected[self.start..self.start + written.len()].copy_from_slice(written);
         let at = (0..expected.len()).find(|&at| expected[at] != self.bytes[at])?;
@@ -305,7 +305,7 @@ impl Harness {
 }
 
 /// The answer's bytes as the numbers that they are meant to be, for a complaint.
-fn numbers_in(answer: &Lent) -> Vec<u32> {
+pub(crate) fn numbers_in(answer: &Lent) -> Vec<u32> {
     let most = answer.length.min(ANSWER_BYTES);
     answer.bytes[answer.start..answer.start + most]
         .chunks_exact(4)

@@ -7,4 +7,5 @@ pub mod generate;
 pub mod harness;
 pub mod mock;
 pub mod program;
+pub mod texts;
 pub mod trial;

@@ -1,4 +1,5 @@
-//! The six C functions on top of the second checker, with a mistake to choose: shows that the comparison sees it.
+//! Six of the C functions on top of the second checker, with a mistake to choose: shows that the comparison sees it.
+//! The seventh, on texts, has mistakes of its own in `texts::mock`.
 
 use crate::boundary::Library;
 use crate::checker::operations::{self, Outcome, ANSWER_BYTES};
@@ -119,6 +120,7 @@ pub fn library() -> Library {
         row,
         one_case,
         check,
+        text: crate::texts::mock::text,
     }
 }
 
