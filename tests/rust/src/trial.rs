@@ -203,7 +203,7 @@ pub struct Parameters {
     pub answer_room: usize,
 }
 
-/// All six operations on any bytes. For packing the bytes are cut into three lists at the rooms.
+/// The six operations on stored jobs, on any bytes. For packing the bytes are cut into three lists at the rooms.
 pub fn try_raw(harness: &mut Harness, job: &[u8], parameters: &Parameters) {
     let Parameters {
         case,

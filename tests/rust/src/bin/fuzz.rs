@@ -1,4 +1,4 @@
-//! `fuzz [FILE]`: compares all six operations of the linked library on any bytes, from a file or standard input.
+//! `fuzz [FILE]`: compares the six operations on stored jobs on any bytes, from a file or standard input.
 //!
 //! The first bytes are parameters: one of flags, one for the answer's room, two each for three rooms, eight each for
 //! case, time and k. What follows is the job. A flag mends the checks, since chance alone hardly gets past them.
