@@ -97,7 +97,7 @@ pub fn first_miss(
     let n = z.n;
     let mut words = [0u64; 504];
     guard_words(expressions, z.e, case / 64, &mut words);
-    let mut t: usize = 0;
+    let mut t: usize = 0; // the first miss is wanted
     let found = 'search: loop {
         if t > last {
             break 'search Place::Nowhere;
