@@ -11,14 +11,14 @@ use phrases::items::{Step, is_at, is_digit, skip, spell};
 use texts::put_text;
 
 // A number and the place after it; or the place where the text stops.
-#[derive(Drop)]
+#[derive(Clone, Copy)]
 pub enum Counted {
     Number { value: usize, at: usize },
     Stuck(usize),
 }
 
 // What a clause says, and the place after it.
-#[derive(Drop)]
+#[derive(Clone, Copy)]
 pub enum Told {
     Said {
         node: usize,

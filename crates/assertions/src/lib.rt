@@ -1,4 +1,6 @@
 // Assertions as text: read into the records of a stored job.
+#![tactic(auto)]
+
 mod clauses;
 mod lists;
 mod reading;
@@ -13,7 +15,7 @@ use stored::Size;
 use texts::put_text;
 
 // The counts of expressions and clauses written; or number and byte.
-#[derive(Drop)]
+#[derive(Clone, Copy)]
 pub enum TextRead {
     Written { expressions: usize, clauses: usize },
     Refused { number: usize, byte: usize },

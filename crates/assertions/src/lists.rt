@@ -12,14 +12,14 @@ use phrases::items::{Step, is_at, skip, spell};
 use texts::put_text;
 
 // The place after the clause and the count of expressions then; or the place where the text stops.
-#[derive(Drop)]
+#[derive(Clone, Copy)]
 pub enum ClauseRead {
     Read { at: usize, e: usize },
     Stopped(usize),
 }
 
 // The place after the clauses, and both counts; or the place where the text stops.
-#[derive(Drop)]
+#[derive(Clone, Copy)]
 pub enum ListRead {
     Listed { at: usize, e: usize, c: usize },
     Unlisted(usize),

@@ -8,7 +8,7 @@ use crate::lists::{ListRead, list};
 use phrases::items::{Step, skip, spell};
 
 // The counts of expressions and clauses; or the place where the text stops.
-#[derive(Drop)]
+#[derive(Clone, Copy)]
 pub enum Whole {
     Read { e: usize, c: usize },
     Stopped(usize),

@@ -12,7 +12,7 @@ use scans::Scan;
 use stored::{Refusal, Size};
 
 // Every record keeps its rule, or the first that breaks it.
-#[derive(Drop)]
+#[derive(Clone, Copy)]
 pub enum Rules {
     Kept,
     Broken(Refusal),

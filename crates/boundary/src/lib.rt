@@ -1,4 +1,6 @@
 // The operations for C and Rust: numbers and byte slices only.
+#![tactic(auto)]
+
 mod answers;
 pub mod asking;
 pub mod packing;

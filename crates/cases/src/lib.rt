@@ -1,4 +1,6 @@
 // One case at a time, the plain way: its rows one after the other, a byte for each node.
+#![tactic(auto)]
+
 mod bytes;
 mod gates;
 mod rows;

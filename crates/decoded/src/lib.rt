@@ -1,4 +1,6 @@
 // A job decoded once: its records as words of 64 bits, and its clauses chained by their time.
+#![tactic(auto)]
+
 ghost use Rattle.std.specs.Prelude.{◌≡◌, ◌++◌, ℕ, ◌+◌, ◌*◌, ◌<◌, ◌≤◌, max, length, get_or, drop, replicate};
 ghost use Rattle.scans.specs.Lists.{list_of};
 ghost use Rattle.meaning.specs.Jobs.{latest};

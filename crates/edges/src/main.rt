@@ -1,5 +1,7 @@
 // Both sides of every edge of document 01, and each refusal at its first and at its last place. A line of standard input is a test:
 // its group, and the numbers that make it, which the line with # above the group names. It is printed with what was answered.
+#![tactic(auto)]
+
 mod build;
 mod bytes;
 mod lines;

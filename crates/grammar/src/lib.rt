@@ -1,1 +1,2 @@
 // The grammar of an assertion's text: definitions and laws only.
+#![tactic(auto)]

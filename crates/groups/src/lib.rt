@@ -1,4 +1,6 @@
 // Sixty-four cases together, over all times.
+#![tactic(auto)]
+
 mod steady;
 mod steps;
 
@@ -22,14 +24,14 @@ use words::{Pair, collided, differs, narrow};
 const ALL: u64 = 0xFFFF_FFFF_FFFF_FFFF;
 
 // What one time tells: where a node collides, and where an expectation is missed.
-#[derive(Drop)]
+#[derive(Clone, Copy)]
 pub struct Told {
     pub collided: u64,
     pub missed: u64,
 }
 
 // What sixty-four cases are answered.
-#[derive(Drop)]
+#[derive(Clone, Copy)]
 pub struct Answered {
     pub empty: u64,
     pub failing: u64,

@@ -1,4 +1,6 @@
 // The guards of sixty-four cases together: a word for each expression, one bit a case.
+#![tactic(auto)]
+
 ghost use Rattle.std.specs.Prelude.{◌≡◌, ℕ, ◌<◌, ◌≤◌, length, get_or};
 ghost use Rattle.decoded.specs.Fields.{byte0, half1, half2};
 ghost use Rattle.guards.specs.Guarded.{GuardWords, earlier_word};

@@ -1,4 +1,6 @@
 // Stored jobs: their sizes, their records taken out, and records stored as a job.
+#![tactic(auto)]
+
 mod packing;
 mod reading;
 

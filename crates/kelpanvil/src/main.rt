@@ -1,4 +1,6 @@
 // The check program: reads a job from standard input and prints one line.
+#![tactic(auto)]
+
 ghost use Rattle.std.specs.Prelude.{length};
 ghost use Rattle.kelpanvil.specs.Told.{Tells, Within};
 
@@ -8,7 +10,7 @@ use runs::check;
 use verdicts::Checked;
 
 // What reading standard input came to: how many bytes of the buffer it filled.
-#[derive(Drop)]
+#[derive(Clone, Copy)]
 enum Input {
     Bytes(usize),
     Unreadable,

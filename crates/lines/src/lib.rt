@@ -1,4 +1,6 @@
 // The line that the check prints for an answer or a refusal: its bytes, with the newline that ends it.
+#![tactic(auto)]
+
 mod pieces;
 
 ghost use Rattle.std.specs.Prelude.{◌++◌, ◌+◌, ◌≤◌, length};

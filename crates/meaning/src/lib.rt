@@ -1,5 +1,7 @@
 // What a case is answered. Values are numbers here: 0, 1, and 2 for X.
-#[derive(Drop)]
+#![tactic(auto)]
+
+#[derive(Clone, Copy)]
 pub enum CaseAnswer {
     Passes,
     Empty {
@@ -14,7 +16,7 @@ pub enum CaseAnswer {
     },
 }
 
-#[derive(Drop)]
+#[derive(Clone, Copy)]
 pub struct Counts {
     pub cases: usize,
     pub passing: usize,
@@ -23,7 +25,7 @@ pub struct Counts {
 }
 
 // What a whole job is answered: the counts, and the case and place that decide it.
-#[derive(Drop)]
+#[derive(Clone, Copy)]
 pub enum JobAnswer {
     Holds(Counts),
     Fails {

@@ -10,7 +10,7 @@ use blocks::numbers::byte_at;
 use texts::put_text;
 
 // The place after the guard and the count of expressions then; or the place where the text stops.
-#[derive(Drop)]
+#[derive(Clone, Copy)]
 pub enum GuardRead {
     Read { at: usize, e: usize },
     Stopped(usize),

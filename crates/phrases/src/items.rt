@@ -6,7 +6,7 @@ ghost use Rattle.phrases.specs.Places.{Skips, is_at, is_digit_at, SpeltAt};
 use blocks::numbers::byte_at;
 
 // The place after what was read, or the one where the text stops.
-#[derive(Drop)]
+#[derive(Clone, Copy)]
 pub enum Step {
     To(usize),
     Stuck(usize),

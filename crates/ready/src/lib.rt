@@ -1,4 +1,6 @@
 // A job made ready to run: read, its records decoded, its clauses chained by their time.
+#![tactic(auto)]
+
 ghost use Rattle.std.specs.Prelude.{◌≡◌, length, replicate};
 ghost use Rattle.ready.specs.Readied.{Readied};
 

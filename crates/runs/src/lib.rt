@@ -1,4 +1,6 @@
 // Running stored jobs: the row of a case, the answer for one case, the answer for the whole job.
+#![tactic(auto)]
+
 ghost use Rattle.std.specs.Prelude.{◌≡◌, ◌+◌, ◌^◌, ◌≤◌, length};
 ghost use Rattle.scans.specs.Refusals.{in_order};
 ghost use Rattle.meaning.specs.Stated.{stated_case};

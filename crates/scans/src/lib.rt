@@ -1,5 +1,7 @@
 // What a search over indexes finds, and what a search over times and nodes finds.
-#[derive(Drop)]
+#![tactic(auto)]
+
+#[derive(Clone, Copy)]
 pub enum Scan {
     // Every index passes its test.
     Clear,
@@ -7,7 +9,7 @@ pub enum Scan {
     Stopped(usize),
 }
 
-#[derive(Drop)]
+#[derive(Clone, Copy)]
 pub enum Place {
     // Every node passes at every time.
     Nowhere,

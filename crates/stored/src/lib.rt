@@ -1,6 +1,8 @@
 // What reading and packing a stored job answer. What the bytes of a job mean stands in specs/.
 // k, and how many nodes, expressions and clauses a job has.
-#[derive(Drop)]
+#![tactic(auto)]
+
+#[derive(Clone, Copy)]
 pub struct Size {
     pub k: usize,
     pub n: usize,
@@ -9,7 +11,7 @@ pub struct Size {
 }
 
 // A refusal's number and place; block and record are 0 where it names none.
-#[derive(Drop)]
+#[derive(Clone, Copy)]
 pub struct Refusal {
     pub number: usize,
     pub block: usize,
@@ -17,14 +19,14 @@ pub struct Refusal {
 }
 
 // What reading a stored job answers.
-#[derive(Drop)]
+#[derive(Clone, Copy)]
 pub enum Read {
     Accepted(Size),
     Refused(Refusal),
 }
 
 // What packing answers: how many bytes were written.
-#[derive(Drop)]
+#[derive(Clone, Copy)]
 pub enum Packed {
     Written(usize),
     Refused(Refusal),

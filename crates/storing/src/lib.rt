@@ -1,4 +1,6 @@
 // Storing records: the bytes of a job, each worked out from its place.
+#![tactic(auto)]
+
 ghost use Rattle.std.specs.Prelude.{◌≡◌, ◌+◌, ◌-◌, ◌*◌, ◌/◌, ◌%◌, ◌<◌, ◌≤◌, ◌++◌, length, drop};
 ghost use Rattle.scans.specs.Lists.{list_of};
 ghost use Rattle.stored.specs.Bytes.{digit, word_of};

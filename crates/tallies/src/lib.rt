@@ -1,4 +1,6 @@
 // How many cases of a job fail and how many are empty, and the least of each.
+#![tactic(auto)]
+
 ghost use Rattle.std.specs.Prelude.{◌≡◌, Bool, ℕ, ◌+◌, ◌*◌, ◌^◌, ◌<◌, min, get_or};
 ghost use Rattle.meaning.specs.Jobs.{latest};
 ghost use Rattle.meaning.specs.Answers.{failing, empty, least};
@@ -11,13 +13,13 @@ use stored::Size;
 use words::{count, least_place, used_places};
 
 // How many cases were found, and the least of them; 0 if there is none.
-#[derive(Drop)]
+#[derive(Clone, Copy)]
 pub struct Found {
     pub count: usize,
     pub least: usize,
 }
 
-#[derive(Drop)]
+#[derive(Clone, Copy)]
 pub struct Counted {
     pub failing: Found,
     pub empty: Found,

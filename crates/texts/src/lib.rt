@@ -1,4 +1,6 @@
 // Texts put at a place of lent bytes, and answered with the place after them.
+#![tactic(auto)]
+
 ghost use Rattle.std.specs.Prelude.{[], ◌∷◌, ◌+◌, ◌<◌, ◌≤◌, length};
 ghost use Rattle.texts.specs.Decimals.{digit, decimal};
 ghost use Rattle.texts.specs.Putting.{Puts};

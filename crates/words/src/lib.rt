@@ -1,11 +1,13 @@
 // Sixty-four cases in a word, one bit a case. A node has two words: could it be 0, could it be 1.
+#![tactic(auto)]
+
 ghost use Rattle.std.specs.Prelude.{◌≡◌, ℕ, ◌<◌};
 ghost use Rattle.meaning.specs.Guards.{bit_of};
 ghost use Rattle.meaning.specs.Answers.{tally};
 ghost use Rattle.meaning.proofs.Tallies.{Least};
 ghost use Rattle.words.specs.Places.{Forces, Narrows, Collided, Differs, VariableWord, UsedPlaces, ExpressionWord, bits_at, not_bits, and_bits, or_bits, xor_bits, mux_bits};
 
-#[derive(Drop)]
+#[derive(Clone, Copy)]
 pub struct Pair {
     pub zeros: u64,
     pub ones: u64,
