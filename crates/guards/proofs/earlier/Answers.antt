@@ -1,0 +1,14 @@
+-- `earlier` reads a word, or 0.
+-- Assumes nothing.
+use mathlib.Core.Path.{◌≡◌}
+use mathlib.Core.Bool.{cond}
+use lib.ListN.{get_or}
+use borrow.Author.Tests.{lt-ltb, le-ltb}
+use borrow.Author.Rules.{rules}
+use Rattle.guards.proofs.earlier.Goals as goal
+
+pub returns-then-a-i : goal.returns-then-a-i
+returns-then-a-i c = rw (lt-ltb _ _ c.if-a-i.true)
+
+pub returns-else-a-i : goal.returns-else-a-i
+returns-else-a-i c = rw (le-ltb _ _ c.if-a-i.false)
