@@ -87,12 +87,15 @@ wished j x t m v (suc i) = wished j x t m v i || (asks j expectation x t m (j.cl
 
 -- the expectation taken into an empty mark sets the bit of each value that is wished
 marked_in : (j : Job) (x t m : ℕ) (v : Bool) (i : ℕ) → bit_of (taken_in mark_byte j expectation x t m i 0) (number (bit v)) ≡ wished j x t m v i
-unfolding taken_in wished mark_byte
+unfolding taken_in wished mark_byte bit_of
 marked_in j x t m v zero = bit_zero (number (bit v))
 marked_in j x t m v (suc i) = go (asks j expectation x t m (j.clause i)) (taken_in mark_byte j expectation x t m i 0) (marked_in j x t m v i)
   where
     wish_bit : (w v : Bool) → bit_of (cond w 2 1) (number (bit v)) ≡ beq w v
-    wish_bit = unfold bit_of in λ w v. elim w [ true ↦ elim v [ true ↦ refl | false ↦ refl ] | false ↦ elim v [ true ↦ refl | false ↦ refl ] ]
+    wish_bit true true = refl
+    wish_bit true false = refl
+    wish_bit false true = refl
+    wish_bit false false = refl
 
     go : (b : Bool) (so_far : ℕ) → bit_of so_far (number (bit v)) ≡ wished j x t m v i
         → bit_of (cond b (bit_or so_far (cond (j.clause i).value 2 1)) so_far) (number (bit v)) ≡ (wished j x t m v i || (b && beq (j.clause i).value v))

@@ -91,19 +91,19 @@ module _ (k n : ℕ) where
       (rw (r.closes OR (omega arith))
       (slots_steps k n (point b gs es (u + size c.guard) listing) c.guard [] (next (counts f.in_row) (next says (next (counts f.binary) (next says (next (counts f.in_time) (next ends full)))))))))
 
-  read_list : (b : Bool) (gs es : List Clause) (u : ℕ) (cs : List Clause) → EachFits k n cs → length gs + length es + length cs ≤ 504 → u + sizes cs ≤ 504
+  read_list : (b : Bool) (cs gs es : List Clause) (u : ℕ) → EachFits k n cs → length gs + length es + length cs ≤ 504 → u + sizes cs ≤ 504
       → steps k n (point b gs es u listing) (list_items cs) ≡ some (grown b gs es u cs)
   unfolding steps list_items EachFits sizes
-  read_list b gs es u [] f few room = rw (add-zero, none_added b gs es u)
-  read_list b gs es u (c ∷ cs) f few room =
+  read_list b [] gs es u f few room = rw (add-zero, none_added b gs es u)
+  read_list b (c ∷ cs) gs es u f few room =
       chain k n _ (clause_items c) _ (read_clause b gs es u c f.0 (omega arith) (omega arith))
-      (rw (← more_added b gs es (c ∷ []) cs, ← add_assoc) (read_list b _ _ _ cs f.1 (omega (arith, length_added b gs es (c ∷ []))) (omega arith)))
+      (rw (← more_added b gs es (c ∷ []) cs, ← add_assoc) (read_list b cs _ _ _ f.1 (omega (arith, length_added b gs es (c ∷ []))) (omega arith)))
 
 pub text_steps : (k n : ℕ) (t : Text) → EachFits k n t.given → EachFits k n t.expect → length t.given + length t.expect ≤ 504 → sizes t.given + sizes t.expect ≤ 504
     → (q : Point) × (steps k n start (text_items t) ≡ some q) × (finished q ≡ some t)
 unfolding steps step text_items finished
 text_steps k n t fg fe few room = (
   grown true t.given [] (0 + sizes t.given) t.expect,
-  chain k n (moved start listing) (list_items t.given) _ (read_list k n false [] [] 0 t.given fg (omega arith) (omega arith)) (read_list k n true t.given [] _ t.expect fe (omega arith) (omega arith)),
+  chain k n (moved start listing) (list_items t.given) _ (read_list k n false t.given [] [] 0 fg (omega arith) (omega arith)) (read_list k n true t.expect t.given [] _ fe (omega arith) (omega arith)),
   refl,
 )

@@ -1,0 +1,10 @@
+-- `xor_byte` reads its rule off the table.
+-- Assumes nothing.
+use mathlib.Core.List.{[], ◌∷◌}
+use Rattle.meaning.specs.Gates.{xor_of}
+use Rattle.cases.proofs.GateLaws.{table_2}
+use borrow.Author.Rules.{rules}
+use Rattle.cases.proofs.gates.xor_byte.Goals as goal
+
+pub returns : goal.returns
+returns c = table_2 xor_of ((0 ∷ 1 ∷ 2 ∷ []) ∷ (1 ∷ 0 ∷ 2 ∷ []) ∷ (2 ∷ 2 ∷ 2 ∷ []) ∷ []) tt c.args.p c.args.q (search rules) (search rules)

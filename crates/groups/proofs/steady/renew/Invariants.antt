@@ -1,0 +1,18 @@
+-- `renew`: the nodes of the clauses before the loop's place are settled.
+-- Assumes nothing.
+use mathlib.Core.Path.{◌≡◌, refl}
+use Prim.Native.Nat.{◌-◌}
+use lib.ListN.{length, get_or}
+use Rattle.decoded.specs.Fields.{clause_of}
+use Rattle.groups.specs.Steady.{SteadyBut}
+use Rattle.groups.proofs.Walks.{Walking, walking, walk_first, walk_on}
+use Rattle.groups.proofs.SteadyLaws.{steady_but_jump, steady_but_more, steady_but_all}
+use borrow.Author.Rules.{rules}
+use native.Mathlib.Omega.{arith}
+use Rattle.groups.proofs.steady.renew.Given as goal
+
+abbrev pub invariant-loop-i : goal.invariant-loop-i
+invariant-loop-i l = Walking (λ m. clause_of (get_or l.clauses m 0)) l.z.c l.t l.i × (length l.zeros ≡ length l.initial.zeros) × (length l.ones ≡ length l.initial.ones) × SteadyBut l.nodes l.z.n (λ m. clause_of (get_or l.clauses m 0)) l.z.c l.t l.i l.zeros l.ones
+
+abbrev pub decreases-loop-i : goal.decreases-loop-i
+decreases-loop-i l = l.z.c - l.i

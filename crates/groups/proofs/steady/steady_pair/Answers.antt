@@ -1,0 +1,8 @@
+-- `steady_pair`: a gate without operands is handed any.
+-- Assumes nothing.
+use Rattle.groups.proofs.SteadyLaws.{steady_forces}
+use borrow.Author.Rules.{rules}
+use Rattle.groups.proofs.steady.steady_pair.Goals as goal
+
+pub returns : goal.returns
+returns c = steady_forces c.gate_pair.ensures

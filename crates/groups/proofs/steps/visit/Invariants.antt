@@ -1,0 +1,16 @@
+-- `visit`: the gates before the loop's place are visited.
+-- Assumes nothing.
+use Prim.Native.Nat.{◌+◌, ◌≤◌, ◌-◌}
+use mathlib.Core.Path.{◌≡◌, refl}
+use lib.ListN.{length, get_or}
+use Rattle.groups.specs.Sorted.{Visits}
+use Rattle.groups.proofs.StepLaws.{visits_none, visits_more}
+use borrow.Author.Rules.{rules}
+use native.Mathlib.Omega.{arith}
+use Rattle.groups.proofs.steps.visit.Given as goal
+
+abbrev pub invariant-loop-i : goal.invariant-loop-i
+invariant-loop-i l = (l.initial.i ≤ l.i) × (l.i ≤ l.end) × (length l.forced0 ≡ length l.initial.forced0) × (length l.forced1 ≡ length l.initial.forced1) × Visits l.code l.gates l.initial.i l.i l.zeros l.ones l.initial.forced0 l.initial.forced1 l.forced0 l.forced1
+
+abbrev pub decreases-loop-i : goal.decreases-loop-i
+decreases-loop-i l = l.end - l.i
