@@ -1,0 +1,26 @@
+-- `put_place`: three fields.
+-- Assumes nothing.
+use Rattle.texts.proofs.PutLaws.{puts_then}
+use Rattle.lines.specs.Lines.{field, place}
+use borrow.Author.Rules.{rules}
+use Rattle.lines.proofs.put_place.Goals as goal
+
+pub put_field-at-requires : goal.put_field-at-requires
+unfolding field place
+put_field-at-requires c = search rules
+
+pub put_field-at-requires-2 : goal.put_field-at-requires-2
+unfolding field place
+put_field-at-requires-2 c = search rules
+
+pub put_field-requires : goal.put_field-requires
+unfolding field place
+put_field-requires c = search rules
+
+pub shape_of-line : goal.shape_of-line
+unfolding field place
+shape_of-line c = search rules
+
+pub returns : goal.returns
+unfolding field place
+returns c = (puts_then (puts_then c.put_field-at.ensures.0 c.put_field-at-2.ensures.0) c.put_field.ensures.0, search rules)
