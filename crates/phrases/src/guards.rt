@@ -39,7 +39,7 @@ fn put_expression(es: &mut [u8], e: usize, op: u8, a: usize, b: usize)
 }
 
 // operand ('|' operand)*
-#[cycle(both_differing_either_grouped_negated_single)]
+#[cycle(levels)]
 pub fn either(
     text: &[u8],
     at: usize,
@@ -80,7 +80,7 @@ pub fn either(
 }
 
 // operand ('^' operand)*
-#[cycle(both_differing_either_grouped_negated_single)]
+#[cycle(levels)]
 fn differing(
     text: &[u8],
     at: usize,
@@ -121,7 +121,7 @@ fn differing(
 }
 
 // operand ('&' operand)*
-#[cycle(both_differing_either_grouped_negated_single)]
+#[cycle(levels)]
 fn both(
     text: &[u8],
     at: usize,
@@ -162,7 +162,7 @@ fn both(
 }
 
 // '!' and what it negates, a group in brackets, a variable or a constant
-#[cycle(both_differing_either_grouped_negated_single)]
+#[cycle(levels)]
 fn single(
     text: &[u8],
     at: usize,
@@ -185,7 +185,7 @@ fn single(
 }
 
 // '!' stands at this place.
-#[cycle(both_differing_either_grouped_negated_single)]
+#[cycle(levels)]
 fn negated(
     text: &[u8],
     at: usize,
@@ -215,7 +215,7 @@ fn negated(
 }
 
 // '(' stands at this place.
-#[cycle(both_differing_either_grouped_negated_single)]
+#[cycle(levels)]
 fn grouped(
     text: &[u8],
     at: usize,
