@@ -9,8 +9,7 @@ use jobs::sizes;
 use runs::{check, one_case};
 
 // DONE with k, n, e, c; or REFUSED with number, block, record.
-#[unsafe(no_mangle)]
-pub extern "C" fn kelpanvil_sizes(job: &[u8], answer: &mut [u8]) -> usize
+pub fn kelpanvil_sizes(job: &[u8], answer: &mut [u8]) -> usize
     ensures { Told (read_answer job.now) answer.old answer.new result }
 {
     if !has_room(answer.len()) {
@@ -20,8 +19,7 @@ pub extern "C" fn kelpanvil_sizes(job: &[u8], answer: &mut [u8]) -> usize
 }
 
 // PASSES; EMPTY with time, node; FAILS with time, node, wanted, found; or REFUSED with number, block, record.
-#[unsafe(no_mangle)]
-pub extern "C" fn kelpanvil_one_case(job: &[u8], case: usize, answer: &mut [u8]) -> usize
+pub fn kelpanvil_one_case(job: &[u8], case: usize, answer: &mut [u8]) -> usize
     ensures { Told (one_case_answer job.now case) answer.old answer.new result }
 {
     if !has_room(answer.len()) {
@@ -32,8 +30,7 @@ pub extern "C" fn kelpanvil_one_case(job: &[u8], case: usize, answer: &mut [u8])
 
 // HOLDS, VACANT or FAILS with cases, passing, failing, empty, then VACANT with case, time, node and FAILS
 // with case, time, node, wanted, found; or REFUSED with number, block, record.
-#[unsafe(no_mangle)]
-pub extern "C" fn kelpanvil_check(job: &[u8], answer: &mut [u8]) -> usize
+pub fn kelpanvil_check(job: &[u8], answer: &mut [u8]) -> usize
     ensures { Told (check_answer job.now) answer.old answer.new result }
 {
     if !has_room(answer.len()) {

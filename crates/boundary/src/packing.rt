@@ -7,8 +7,7 @@ use crate::telling::{has_room, tell};
 use jobs::pack;
 
 // DONE with the number of bytes written; or REFUSED with number, block, record.
-#[unsafe(no_mangle)]
-pub extern "C" fn kelpanvil_pack(
+pub fn kelpanvil_pack(
     k: usize,
     nodes: &[u8],
     expressions: &[u8],

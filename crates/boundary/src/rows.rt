@@ -6,8 +6,7 @@ use crate::telling::{has_room, tell};
 use runs::row;
 
 // DONE with the number of bytes written; or REFUSED with number, block, record.
-#[unsafe(no_mangle)]
-pub extern "C" fn kelpanvil_row(
+pub fn kelpanvil_row(
     job: &[u8],
     case: usize,
     time: usize,

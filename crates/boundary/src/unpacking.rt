@@ -6,8 +6,7 @@ use crate::telling::{has_room, tell};
 use jobs::unpack;
 
 // DONE with k, n, e, c; or REFUSED with number, block, record.
-#[unsafe(no_mangle)]
-pub extern "C" fn kelpanvil_unpack(
+pub fn kelpanvil_unpack(
     job: &[u8],
     nodes: &mut [u8],
     expressions: &mut [u8],

@@ -6,8 +6,7 @@ use crate::telling::{has_room, tell};
 use assertions::read_text;
 
 // DONE with the counts of expressions and clauses; or REFUSED with number and byte, its low and its high four bytes.
-#[unsafe(no_mangle)]
-pub extern "C" fn kelpanvil_text(
+pub fn kelpanvil_text(
     k: usize,
     n: usize,
     text: &[u8],

@@ -1,0 +1,13 @@
+-- `of_checked`: the job's answer, or a refusal.
+-- Assumes nothing.
+use mathlib.Core.Path.{sym, ◌∙◌, ap}
+use Rattle.verdicts.specs.Running.{stated_checked}
+use Rattle.boundary.specs.Answer.{ten_numbers}
+use borrow.Author.Rules.{rules}
+use Rattle.boundary.proofs.answers.of_checked.Goals as goal
+
+pub returns-in-Answered : goal.returns-in-Answered
+returns-in-Answered c = c.of_job_answer.ensures ∙ ap (λ a. ten_numbers (stated_checked a)) (sym c.in-Answered.is)
+
+pub returns-in-Refused : goal.returns-in-Refused
+returns-in-Refused c = c.of_refusal.ensures ∙ ap (λ a. ten_numbers (stated_checked a)) (sym c.in-Refused.is)

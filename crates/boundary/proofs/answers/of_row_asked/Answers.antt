@@ -1,0 +1,13 @@
+-- `of_row_asked`: the bytes written, or a refusal.
+-- Assumes nothing.
+use mathlib.Core.Path.{sym, ◌∙◌, ap}
+use Rattle.verdicts.specs.Running.{stated_row}
+use Rattle.boundary.specs.Answer.{ten_numbers}
+use borrow.Author.Rules.{rules}
+use Rattle.boundary.proofs.answers.of_row_asked.Goals as goal
+
+pub returns-in-Written : goal.returns-in-Written
+returns-in-Written c = c.of_bytes_written.ensures ∙ ap (λ a. ten_numbers (stated_row a)) (sym c.in-Written.is)
+
+pub returns-in-Refused : goal.returns-in-Refused
+returns-in-Refused c = c.of_refusal.ensures ∙ ap (λ a. ten_numbers (stated_row a)) (sym c.in-Refused.is)
