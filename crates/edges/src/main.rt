@@ -13,35 +13,49 @@ mod unpacking;
 
 use crate::bytes::front;
 use crate::lines::{begins, line_end, row_of};
-use libc::STDIN_FILENO;
+use std::io::Read;
+use std::rt::{Stdin, Stdout};
 
-fn test(line: &[u8], job: &mut [u8]) {
-    show::text(line);
+fn test(to: Stdout, line: &[u8], job: &mut [u8]) {
+    show::text(to, line);
     if begins(line, b"#") {
-        return show::end();
+        return show::end(to);
     }
-    show::text(b":");
+    show::text(to, b":");
     let row = row_of(line);
-    reading::test(line, row, job);
-    records::test(line, row, job);
-    packing::test(line, row, job);
-    unpacking::test(line, row, job);
+    reading::test(to, line, row, job);
+    records::test(to, line, row, job);
+    packing::test(to, line, row, job);
+    unpacking::test(to, line, row, job);
 }
 
 // The job is built anew for each test but `wrong-from`, which goes on with that of the line before.
-fn run(tests: &[u8], job: &mut [u8]) {
+fn run(to: Stdout, tests: &[u8], job: &mut [u8]) {
     let mut at: usize = 0;
     while at < tests.len() {
         let end = line_end(tests, at);
-        test(&tests[at..end], job);
+        test(to, &tests[at..end], job);
         at = end + 1;
     }
 }
 
-fn main() {
+// Reads until the buffer is full, the input ends or it cannot be read, and says how many bytes came.
+fn read_full(input: &mut Stdin, buffer: &mut [u8]) -> usize {
+    let mut done: usize = 0;
+    while done < buffer.len() {
+        match input.read(&mut buffer[done..]) {
+            Ok(0) => return done,
+            Ok(more) => done += more,
+            Err(_) => return done,
+        }
+    }
+    done
+}
+
+fn main(rt: HostRuntime) {
     let mut tests = [0u8; 16384];
-    let size = io::read_full(STDIN_FILENO, &mut tests);
+    let size = read_full(&mut rt.stdin(), &mut tests);
     // 128 blocks, for a length that does not fit sixteen bits.
     let mut job = [0u8; 65536];
-    run(front(&tests, size), &mut job);
+    run(rt.stdout(), front(&tests, size), &mut job);
 }

@@ -4,6 +4,7 @@ use crate::bytes::{MARK, clear, front, least, put_bytes, same};
 use crate::lines::{begins, last_of};
 use crate::show;
 use crate::unpacking::unpack_line;
+use std::rt::Stdout;
 use stored::Packed;
 
 // Room in an output for the largest job and two blocks more.
@@ -28,14 +29,14 @@ fn repack(job: &[u8], z: Shape, room: usize, out: &mut [u8]) -> Packed {
 }
 
 // Ends a line with what reading a job answers, and packing its records into an output of `room` bytes.
-pub fn read_and_pack(job: &[u8], z: Shape, room: usize) {
+pub fn read_and_pack(to: Stdout, job: &[u8], z: Shape, room: usize) {
     let mut out = [MARK; ROOM];
     let answer = repack(job, z, room, &mut out);
-    show::text(b" read");
-    show::read(jobs::sizes(front(job, place(blocks_of(z), 0) as usize)));
-    show::text(b" pack");
-    show::packed(answer, &out);
-    show::end();
+    show::text(to, b" read");
+    show::read(to, jobs::sizes(front(job, place(blocks_of(z), 0) as usize)));
+    show::text(to, b" pack");
+    show::packed(to, answer, &out);
+    show::end(to);
 }
 
 // Packs lists of zeros, of the bytes that a row has, into the first bytes of an output.
@@ -50,32 +51,32 @@ fn pack_into(k: usize, row: [u16; 7], lists: &[u8], out: &mut [u8]) -> Packed {
     )
 }
 
-fn pack_zeros(k: usize, row: [u16; 7]) {
+fn pack_zeros(to: Stdout, k: usize, row: [u16; 7]) {
     let lists = [0u8; 8080];
     let mut out = [MARK; ROOM];
     let answer = pack_into(k, row, &lists, &mut out);
-    show::packed(answer, &out);
-    show::end();
+    show::packed(to, answer, &out);
+    show::end(to);
 }
 
 // What is packed is the job, byte for byte, and unpacks to the same records.
-fn round_trip(job: &[u8], z: Shape, room: u16) {
+fn round_trip(to: Stdout, job: &[u8], z: Shape, room: u16) {
     let mut out = [MARK; ROOM];
     let answer = repack(job, z, room as usize, &mut out);
-    show::packed(answer, &out);
+    show::packed(to, answer, &out);
     if let Packed::Written(n) = answer {
-        show::same(same(&out, job, n));
-        show::text(b" unpack");
-        unpack_line(front(&out, n), job, z, [8064, 4032, 4032]);
+        show::same(to, same(&out, job, n));
+        show::text(to, b" unpack");
+        unpack_line(to, front(&out, n), job, z, [8064, 4032, 4032]);
     } else {
-        show::end();
+        show::end(to);
     }
 }
 
-fn repack_built(job: &mut [u8], row: [u16; 7]) {
+fn repack_built(to: Stdout, job: &mut [u8], row: [u16; 7]) {
     let z = Shape::of([row[2], row[3], row[4], row[5]]);
     build(job, z);
-    round_trip(job, z, row[6]);
+    round_trip(to, job, z, row[6]);
 }
 
 fn flag_block(job: &mut [u8], block: u16, used: &[u8], check: &[u8]) {
@@ -111,26 +112,26 @@ fn flag_blocks(job: &mut [u8]) {
     );
 }
 
-fn flag(job: &mut [u8]) {
+fn flag(to: Stdout, job: &mut [u8]) {
     clear(job, 0);
     flag_blocks(job);
-    show::read(jobs::sizes(front(job, 2048)));
-    show::end();
-    show::text(b"repack 1 2 2 4 2048:");
-    round_trip(job, Shape::of([1, 2, 2, 4]), 2048);
+    show::read(to, jobs::sizes(front(job, 2048)));
+    show::end(to);
+    show::text(to, b"repack 1 2 2 4 2048:");
+    round_trip(to, job, Shape::of([1, 2, 2, 4]), 2048);
 }
 
-pub fn test(line: &[u8], row: [u16; 7], job: &mut [u8]) {
+pub fn test(to: Stdout, line: &[u8], row: [u16; 7], job: &mut [u8]) {
     if begins(line, b"pack k ") {
-        return pack_zeros(last_of(line), [0, 0, 0, 8, 0, 0, 1024]);
+        return pack_zeros(to, last_of(line), [0, 0, 0, 8, 0, 0, 1024]);
     }
     if begins(line, b"pack ") {
-        return pack_zeros(row[2] as usize, row);
+        return pack_zeros(to, row[2] as usize, row);
     }
     if begins(line, b"repack ") {
-        return repack_built(job, row);
+        return repack_built(to, job, row);
     }
     if begins(line, b"flag") {
-        return flag(job);
+        return flag(to, job);
     }
 }

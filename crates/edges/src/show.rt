@@ -1,68 +1,70 @@
 // The parts of a line of output.
 use crate::bytes;
-use libc::STDOUT_FILENO;
+use std::io::Write;
+use std::rt::Stdout;
 use stored::{Packed, Read, Refusal};
 
-pub fn text(t: &[u8]) {
-    io::write_all(STDOUT_FILENO, t);
+pub fn text(to: Stdout, t: &[u8]) {
+    let mut stdout = to;
+    let _ = stdout.write_all(t);
 }
 
-pub fn end() {
-    text(b"\n");
+pub fn end(to: Stdout) {
+    text(to, b"\n");
 }
 
-fn number(n: usize) {
-    text(b" ");
-    io::print_decimal(STDOUT_FILENO, n as u64);
+fn number(to: Stdout, n: usize) {
+    text(to, b" ");
+    let _ = print!(to; "{n}");
 }
 
-fn refused(r: Refusal) {
-    text(b" refused");
-    number(r.number);
-    number(r.block);
-    number(r.record);
+fn refused(to: Stdout, r: Refusal) {
+    text(to, b" refused");
+    number(to, r.number);
+    number(to, r.block);
+    number(to, r.record);
 }
 
-pub fn read(answer: Read) {
+pub fn read(to: Stdout, answer: Read) {
     match answer {
-        Read::Refused(r) => refused(r),
+        Read::Refused(r) => refused(to, r),
         Read::Accepted(z) => {
-            text(b" sizes");
-            number(z.k);
-            number(z.n);
-            number(z.e);
-            number(z.c);
+            text(to, b" sizes");
+            number(to, z.k);
+            number(to, z.n);
+            number(to, z.e);
+            number(to, z.c);
         }
     }
 }
 
-pub fn same(yes: bool) {
+pub fn same(to: Stdout, yes: bool) {
     if yes {
-        text(b" same");
+        text(to, b" same");
     } else {
-        text(b" differs");
+        text(to, b" differs");
     }
 }
 
-pub fn kept(yes: bool) {
+pub fn kept(to: Stdout, yes: bool) {
     if yes {
-        text(b" kept");
+        text(to, b" kept");
     } else {
-        text(b" changed");
+        text(to, b" changed");
     }
 }
 
 // What packing answered, and whether it left the rest of its output alone.
-pub fn packed(answer: Packed, out: &[u8]) {
+pub fn packed(to: Stdout, answer: Packed, out: &[u8]) {
     match answer {
         Packed::Refused(r) => {
-            refused(r);
-            kept(bytes::kept(out, 0));
+            refused(to, r);
+            kept(to, bytes::kept(out, 0));
         }
         Packed::Written(n) => {
-            text(b" written");
-            number(n);
-            kept(bytes::kept(out, n));
+            text(to, b" written");
+            number(to, n);
+            kept(to, bytes::kept(out, n));
         }
     }
 }

@@ -3,6 +3,7 @@ use crate::build::{Shape, blocks_of, build, count_of, place, records_size, take}
 use crate::bytes::{MARK, front, kept, least, same};
 use crate::lines::begins;
 use crate::show;
+use std::rt::Stdout;
 use stored::Read;
 
 fn unpack_into(
@@ -42,27 +43,27 @@ fn all_kept(z: Shape, nodes: &[u8], expressions: &[u8], clauses: &[u8]) -> bool 
 }
 
 // Ends a line with what unpacking answers and does.
-pub fn unpack_line(stored: &[u8], job: &[u8], z: Shape, rooms: [u16; 3]) {
+pub fn unpack_line(to: Stdout, stored: &[u8], job: &[u8], z: Shape, rooms: [u16; 3]) {
     let mut nodes = [MARK; 8080];
     let mut expressions = [MARK; 4048];
     let mut clauses = [MARK; 4048];
     let answer = unpack_into(stored, rooms, &mut nodes, &mut expressions, &mut clauses);
-    show::read(answer);
+    show::read(to, answer);
     if let Read::Accepted(_) = answer {
-        show::same(all_hold(job, z, &nodes, &expressions, &clauses));
-        show::kept(all_kept(z, &nodes, &expressions, &clauses));
+        show::same(to, all_hold(job, z, &nodes, &expressions, &clauses));
+        show::kept(to, all_kept(z, &nodes, &expressions, &clauses));
     } else {
         let none = Shape::of([0, 0, 0, 0]);
-        show::kept(all_kept(none, &nodes, &expressions, &clauses));
+        show::kept(to, all_kept(none, &nodes, &expressions, &clauses));
     }
-    show::end();
+    show::end(to);
 }
 
-pub fn test(line: &[u8], row: [u16; 7], job: &mut [u8]) {
+pub fn test(to: Stdout, line: &[u8], row: [u16; 7], job: &mut [u8]) {
     if begins(line, b"unpack ") {
         let z = Shape::of([row[0], row[1], row[2], row[3]]);
         build(job, z);
         let size = place(blocks_of(z), 0) as usize;
-        unpack_line(front(job, size), job, z, [row[4], row[5], row[6]]);
+        unpack_line(to, front(job, size), job, z, [row[4], row[5], row[6]]);
     }
 }

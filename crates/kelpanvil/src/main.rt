@@ -4,9 +4,10 @@
 ghost use Rattle.std.specs.Prelude.{length};
 ghost use Rattle.kelpanvil.specs.Told.{Tells, Within};
 
-use libc::{STDERR_FILENO, STDIN_FILENO, STDOUT_FILENO};
 use lines::{refusal_line, verdict_line};
 use runs::check;
+use std::io::{Read, Write};
+use std::rt::{Stderr, Stdin};
 use verdicts::Checked;
 
 // What reading standard input came to: how many bytes of the buffer it filled.
@@ -17,20 +18,16 @@ enum Input {
 }
 
 // Reads until the buffer is full or the input ends.
-fn read_input(buffer: &mut [u8]) -> Input
+fn read_input(input: &mut Stdin, buffer: &mut [u8]) -> Input
     ensures { Within result (length buffer.old) }
 {
     let mut done: usize = 0;
     while done < buffer.len() {
-        let got = libc::read(STDIN_FILENO, &mut buffer[done..]);
-        if got < 0 {
-            return Input::Unreadable;
+        match input.read(&mut buffer[done..]) {
+            Ok(0) => return Input::Bytes(done),
+            Ok(more) => done += more,
+            Err(_) => return Input::Unreadable,
         }
-        let more = io::count(got, &buffer[done..]);
-        if more == 0 {
-            return Input::Bytes(done);
-        }
-        done += more;
     }
     Input::Bytes(done)
 }
@@ -50,19 +47,23 @@ fn tell(job: &[u8], out: &mut [u8]) -> usize
     verdict_line(answer, out)
 }
 
-fn complain(message: &[u8]) {
-    io::write_all(STDERR_FILENO, message);
+// What cannot be told on standard error either is told nowhere.
+fn complain(mut stderr: Stderr, message: &[u8]) {
+    let _ = stderr.write_all(message);
 }
 
-fn main() {
+fn main(rt: HostRuntime) {
     // One byte more than the longest job: what fills it is too long, however long it is.
     let mut buffer = [0u8; 16897];
-    let Input::Bytes(size) = read_input(&mut buffer) else {
-        return complain(b"kelpanvil: standard input cannot be read\n");
+    let Input::Bytes(size) = read_input(&mut rt.stdin(), &mut buffer) else {
+        return complain(rt.stderr(), b"kelpanvil: standard input cannot be read\n");
     };
     let mut line = [0u8; 256];
     let n = tell(&buffer[..size], &mut line);
-    if !io::write_all(STDOUT_FILENO, &line[..n]) {
-        complain(b"kelpanvil: standard output cannot be written\n");
+    if rt.stdout().write_all(&line[..n]).is_err() {
+        complain(
+            rt.stderr(),
+            b"kelpanvil: standard output cannot be written\n",
+        );
     }
 }

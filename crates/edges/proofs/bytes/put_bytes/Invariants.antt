@@ -1,0 +1,10 @@
+-- `put_bytes` is safe and ends: the bytes that are left fall.
+-- Assumes nothing.
+use Rattle.std.proofs.Common.{◌≡◌, ◌-◌, length, rules}
+use Rattle.edges.proofs.bytes.put_bytes.Given as goal
+
+abbrev pub invariant-loop-i : goal.invariant-loop-i
+invariant-loop-i l = length l.s ≡ length l.initial.s
+
+abbrev pub decreases-loop-i : goal.decreases-loop-i
+decreases-loop-i l = l.n - l.i

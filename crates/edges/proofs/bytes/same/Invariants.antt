@@ -1,0 +1,10 @@
+-- `same` is safe and ends: the bytes that are left fall.
+-- Assumes nothing.
+use Rattle.std.proofs.Common.{◌-◌, rules}
+use Rattle.edges.proofs.bytes.same.Given as goal
+
+abbrev pub invariant-loop-i : goal.invariant-loop-i
+invariant-loop-i l = Unit {0}
+
+abbrev pub decreases-loop-i : goal.decreases-loop-i
+decreases-loop-i l = l.n - l.i
