@@ -20,7 +20,6 @@ use Rattle.assertions.specs.declared.reading.Whole.TheVariants.{Read, Stopped}
 use Rattle.grammar.specs.Grammar.{Reads, limits}
 use Rattle.assertions.specs.Answering.{Room, Answered}
 use Rattle.grammar.specs.Points.{start}
-use Rattle.grammar.specs.Bytewise.{reads}
 use Rattle.assertions.specs.TextsRead.{RestAsked, TextTo, TextNone, TextCases, TextAt}
 use Rattle.grammar.proofs.Readings.{read_is, stop_is}
 

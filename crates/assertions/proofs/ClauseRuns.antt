@@ -8,12 +8,12 @@ use mathlib.Core.Option.{some}
 use native.Mathlib.Omega.{arith}
 use Prim.Native.Nat.{ℕ, ◌+◌, ◌-◌, ◌*◌, ◌<◌}
 use lib.Dec.{eqb}
-use Rattle.scans.proofs.Bools.{both_ways, says, left_true, right_true}
+use Rattle.scans.proofs.Bools.{both_ways, left_true, right_true}
 use Rattle.texts.specs.Putting.{Puts}
 use Rattle.assertions.specs.declared.lists.ClauseRead.{ClauseRead}
 use Rattle.assertions.specs.declared.lists.ClauseRead.TheVariants.{Read, Stopped}
 use Rattle.grammar.specs.Items.{WHEN, Mark, NOT, OPEN, COLON, word, mark_byte, letters}
-use Rattle.grammar.specs.Guards.{Guard, size}
+use Rattle.grammar.specs.Guards.{Guard}
 use Rattle.grammar.specs.Records.{guard_place, clause_bytes}
 use Rattle.grammar.specs.Points.{close, groups, clause_slots, listing, guarding, guarded, Point, step, finished}
 use Rattle.grammar.specs.Bytewise.{ready, stops, reading}

@@ -1,11 +1,11 @@
 -- The promise of `read_text` determines its answer and both lists: two outcomes that it allows are equal.
 -- Assumes nothing.
-use mathlib.Core.Path.{◌≡◌, refl, sym, ◌∙◌, ap, subst}
-use mathlib.Core.Logic.{◌⊎◌, inl, inr}
-use mathlib.Core.Bool.{true, false}
+use mathlib.Core.Path.{◌≡◌, sym, ◌∙◌, ap, subst}
+use mathlib.Core.Logic.{inl, inr}
+use mathlib.Core.Bool.{true}
 use mathlib.Core.List.{List, ◌++◌}
 use native.Mathlib.Omega.{arith}
-use Prim.Native.Nat.{ℕ, ◌≤◌}
+use Prim.Native.Nat.{ℕ}
 use lib.ListN.{length, drop}
 use Rattle.scans.proofs.Bools.{both_ways}
 use Rattle.stored.specs.Broken.{Limits}
@@ -14,7 +14,7 @@ use Rattle.assertions.specs.declared.TextRead.{TextRead}
 use Rattle.assertions.specs.declared.TextRead.TheVariants.{Written, Refused}
 use Rattle.grammar.specs.Grammar.{Text, Reads, limits}
 use Rattle.grammar.specs.Records.{text_expressions, text_clauses}
-use Rattle.assertions.specs.Answering.{Room, Why, WrittenAs, AnswerCases, Answered}
+use Rattle.assertions.specs.Answering.{Room, Why, AnswerCases, Answered}
 use Rattle.grammar.proofs.Readings.{never_both, stop_unique, reading_unique}
 
 module _ {k n : ℕ} {s : List ℕ} where

@@ -10,7 +10,7 @@ use native.Mathlib.Omega.{arith}
 use Prim.Native.Nat.{ℕ, ◌+◌, ◌*◌, ◌≤◌, ◌<◌}
 use lib.Dec.{leb}
 use lib.ListN.{length, length-append}
-use Rattle.scans.proofs.Bools.{says, both_ways}
+use Rattle.scans.proofs.Bools.{both_ways}
 use Rattle.stored.specs.Bytes.{byte_at}
 use Rattle.texts.specs.Putting.{Puts}
 use Rattle.texts.proofs.PutLaws.{puts_then, ended_at, puts_none}

@@ -18,7 +18,7 @@ use Rattle.assertions.specs.declared.clauses.Counted.TheVariants.{Number, Stuck}
 use Rattle.grammar.specs.Items.{Keyword, Mark, number, word, letters}
 use Rattle.grammar.specs.Guards.{Guard}
 use Rattle.grammar.specs.Points.{Slot, saying, below, telling, Point, word_number, ended, step, finished}
-use Rattle.grammar.specs.Bytewise.{Outcome, staying, going_on, run, ready, digits, at, fed, stops}
+use Rattle.grammar.specs.Bytewise.{Outcome, staying, going_on, run, ready, digits, fed, stops}
 use Rattle.phrases.specs.Places.{is_digit_at, Stands, Skips, NoGap, Broken, Spelt}
 use Rattle.phrases.specs.GuardsRead.{in_phase}
 use Rattle.assertions.specs.ClausesRead.{awaiting, Fills, Fails, CountedCases, CountedAt, LabelledAt}

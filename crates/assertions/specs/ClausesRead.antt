@@ -1,6 +1,6 @@
 -- What reading the rest of a clause at a place comes to.
 -- Assumes nothing.
-use Rattle.std.specs.Prelude.{◌≡◌, Bool, true, false, List, [], ◌∷◌, ◌++◌, ℕ, ◌+◌, ◌*◌, ◌≤◌, ◌<◌, length, drop}
+use Rattle.std.specs.Prelude.{◌≡◌, Bool, true, false, List, [], ◌∷◌, ◌++◌, ℕ, ◌≤◌, ◌<◌, length, drop}
 use Rattle.assertions.specs.declared.clauses.Counted.{Counted}
 use Rattle.assertions.specs.declared.clauses.Counted.TheVariants.{Number, Stuck}
 use Rattle.assertions.specs.declared.clauses.Told.{Told}
@@ -8,7 +8,7 @@ use Rattle.assertions.specs.declared.clauses.Told.TheVariants.{Said, Untold}
 use Rattle.grammar.specs.Items.{Keyword, letters as spelled_so}
 use Rattle.grammar.specs.Guards.{Guard}
 use Rattle.grammar.specs.Grammar.{Clause}
-use Rattle.grammar.specs.Points.{Slot, saying, below, clause_slots, listing, telling, Point, added}
+use Rattle.grammar.specs.Points.{Slot, saying, below, listing, telling, Point, added}
 use Rattle.grammar.specs.Bytewise.{Within, ready, at, Outcome, stops, run}
 use Rattle.phrases.specs.GuardsRead.{in_phase}
 

@@ -1,16 +1,16 @@
 -- What reading a clause, a list of clauses and a whole text comes to.
 -- Assumes nothing.
-use Rattle.std.specs.Prelude.{◌≡◌, Bool, false, cond, List, ◌++◌, ℕ, ◌+◌, ◌*◌, ◌≤◌, ◌<◌, length, drop}
+use Rattle.std.specs.Prelude.{◌≡◌, Bool, false, cond, List, ◌++◌, ℕ, ◌+◌, ◌*◌, ◌≤◌, ◌<◌, length}
 use Rattle.texts.specs.Putting.{Puts}
 use Rattle.assertions.specs.declared.lists.ClauseRead.{ClauseRead}
 use Rattle.assertions.specs.declared.lists.ClauseRead.TheVariants.{Read, Stopped}
 use Rattle.assertions.specs.declared.lists.ListRead.{ListRead}
 use Rattle.assertions.specs.declared.lists.ListRead.TheVariants.{Listed, Unlisted}
 use Rattle.grammar.specs.Guards.{size}
-use Rattle.grammar.specs.Grammar.{Clause, Text, sizes}
-use Rattle.grammar.specs.Records.{guard_records, clause_record, list_expressions, list_clauses, text_expressions, text_clauses}
-use Rattle.grammar.specs.Points.{Phase, listing, guarding, Point}
-use Rattle.grammar.specs.Bytewise.{Within, ready, at, Outcome, reads, stops, run, read_text, reading}
+use Rattle.grammar.specs.Grammar.{Clause, sizes}
+use Rattle.grammar.specs.Records.{guard_records, clause_record, list_expressions, list_clauses}
+use Rattle.grammar.specs.Points.{Phase, listing, Point}
+use Rattle.grammar.specs.Bytewise.{ready, stops, reading}
 use Rattle.phrases.specs.Places.{Stands, NoGap}
 use Rattle.phrases.specs.GuardsRead.{in_phase}
 use Rattle.assertions.specs.ClausesRead.{clause_added}

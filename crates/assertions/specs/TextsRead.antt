@@ -1,6 +1,6 @@
 -- What reading the lists of a text and the whole of it comes to.
 -- Assumes nothing.
-use Rattle.std.specs.Prelude.{◌≡◌, Bool, true, false, List, [], ℕ, ◌+◌, ◌*◌, ◌≤◌, length}
+use Rattle.std.specs.Prelude.{◌≡◌, Bool, List, [], ℕ, ◌*◌, ◌≤◌, length}
 use Rattle.texts.specs.Putting.{Puts}
 use Rattle.assertions.specs.declared.reading.Whole.{Whole}
 use Rattle.assertions.specs.declared.reading.Whole.TheVariants.{Read, Stopped}
@@ -8,7 +8,6 @@ use Rattle.grammar.specs.Grammar.{Clause, Text}
 use Rattle.grammar.specs.Records.{list_expressions, list_clauses, text_expressions, text_clauses}
 use Rattle.grammar.specs.Points.{listing, Point}
 use Rattle.grammar.specs.Bytewise.{ready, reads, stops, reading}
-use Rattle.phrases.specs.Places.{Stands, NoGap}
 
 -- before a clause, these having been read; after `expect` or not
 abbrev pub listing_at : Bool → List Clause → ℕ → Point

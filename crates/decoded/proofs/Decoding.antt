@@ -1,15 +1,14 @@
 -- The decoded lists are the job that the records are, and every reference in them is within bounds.
 -- Assumes nothing.
-use mathlib.Core.Path.{◌≡◌, refl, sym, ◌∙◌, ap, fun_ext}
+use mathlib.Core.Path.{◌≡◌, sym, ◌∙◌, ap, fun_ext}
 use mathlib.Core.List.{List, ◌++◌}
-use Prim.Native.Nat.{ℕ, ◌+◌, ◌*◌, ◌/◌, ◌%◌, ◌-◌, ◌≤◌, ◌<◌}
+use Prim.Native.Nat.{ℕ, ◌+◌, ◌*◌, ◌-◌, ◌≤◌, ◌<◌}
 use native.Mathlib.Decide.{dec_lt}
 use native.Mathlib.Omega.{arith}
-use lib.ListN.{length, get_or, drop, replicate, length-append, length-drop, length-replicate, get_or-replicate, get_or-append, get_or-eq_default}
+use lib.ListN.{length, get_or, drop, replicate, length-replicate, get_or-replicate, get_or-append, get_or-eq_default}
 use lib.Seq.{get_or-append-add, get_or-drop}
 use Rattle.scans.specs.Lists.{list_of}
 use Rattle.scans.proofs.Lists.{length_list_of, list_of_at}
-use Rattle.meaning.specs.Jobs.{Job}
 use Rattle.stored.specs.Bytes.{byte_at, u16_at, Bytes}
 use Rattle.stored.specs.Layout.{Records, sizes_of}
 use Rattle.stored.specs.Packing.{ByteLists}

@@ -1,9 +1,9 @@
 -- A record as one number, low byte first; its fields; and the job that three lists of such numbers are.
 -- Assumes nothing.
-use Rattle.std.specs.Prelude.{◌≡◌, Bool, List, [], ◌∷◌, ℕ, ◌+◌, ◌*◌, ◌/◌, ◌%◌, ◌≤◌, ◌<◌, eqb, length, get_or}
+use Rattle.std.specs.Prelude.{◌≡◌, List, [], ◌∷◌, ℕ, ◌+◌, ◌*◌, ◌/◌, ◌%◌, ◌≤◌, ◌<◌, eqb, length, get_or}
 use Rattle.meaning.specs.Gates.{gate_of_code}
 use Rattle.meaning.specs.Guards.{Expression, FALSE, TRUE, VARIABLE, NOT, AND, OR, XOR}
-use Rattle.meaning.specs.Jobs.{Node, Side, stimulus, expectation, Clause, Job}
+use Rattle.meaning.specs.Jobs.{Node, stimulus, expectation, Clause, Job}
 use Rattle.stored.specs.Bytes.{u16_at}
 
 -- record i of a list of records

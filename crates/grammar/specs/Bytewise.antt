@@ -1,11 +1,11 @@
 -- Reading a text byte by byte: the next byte goes on with an item, or begins one, or is a gap.
 -- Assumes nothing.
-use Rattle.std.specs.Prelude.{Bool, true, false, ◌&&◌, not, cond, List, [], ◌∷◌, ℕ, suc, ◌+◌, ◌*◌, ◌-◌, leb, ltb, eqb, drop}
+use Rattle.std.specs.Prelude.{Bool, true, false, ◌&&◌, cond, List, [], ◌∷◌, ℕ, suc, ◌+◌, ◌*◌, ◌-◌, leb, ltb, eqb, drop}
 use Rattle.std.proofs.Math.Option.{Option, some, none}
 use Rattle.grammar.specs.Items.{Keyword, GIVEN, EXPECT, WHEN, IS, AT, AND, XOR, OR, Mark, NOT, OPEN, CLOSE, COLON, SEMICOLON, SIGN, word, variable, number, mark, letters}
 use Rattle.grammar.specs.Spelling.{is_gap}
 use Rattle.grammar.specs.Grammar.{Text}
-use Rattle.grammar.specs.Points.{Point, when, mapped, step, start, finished}
+use Rattle.grammar.specs.Points.{Point, when, step, start, finished}
 
 -- between items, with a wordlike one just before or not; within a word, with the letters to come; within a number
 pub data Within : Type 0 where

@@ -19,7 +19,7 @@ use Rattle.meaning.specs.Values.{collides}
 use Rattle.meaning.specs.Guards.{bit_of}
 use Rattle.meaning.specs.Jobs.{expectation, until, Job, asks, latest, last_time, WellFormed}
 use Rattle.meaning.specs.Rows.{cell, row_clear}
-use Rattle.meaning.specs.Cases.{missed, met_at, answer_at, first_collision, first_miss, answer_of, case_answer, is_empty, is_fails}
+use Rattle.meaning.specs.Cases.{met_at, answer_at, first_collision, first_miss, answer_of, case_answer, is_empty, is_fails}
 use Rattle.meaning.specs.Answers.{empty, failing}
 use Rattle.meaning.proofs.Clauses.{latest_le, place_time}
 use Rattle.meaning.proofs.Weakest.{FreeTo}
@@ -29,7 +29,6 @@ use Rattle.guards.specs.Guarded.{Guarded, GuardWords}
 use Rattle.guards.proofs.GuardLaws.{guarded}
 use Rattle.words.proofs.Bits.{bit_and_lem, bit_not}
 use Rattle.groups.specs.declared.Told.{Told}
-use Rattle.groups.specs.declared.Answered.{Answered}
 use Rattle.groups.specs.Held.{Asking}
 use Rattle.groups.specs.Turns.{Wired, row_met, Ran, RanPast, Unknown, GroupTells}
 use Rattle.groups.proofs.TurnLaws.{formed}

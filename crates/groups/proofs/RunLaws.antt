@@ -3,16 +3,14 @@
 use mathlib.Core.Path.{◌≡◌, refl, sym, ◌∙◌, ap}
 use mathlib.Core.Bool.{Bool, true, false, not, ◌&&◌, ◌||◌}
 use mathlib.Core.List.{List}
-use Prim.Native.Nat.{ℕ, suc, ◌<◌, ◌-◌, ◌^◌}
+use Prim.Native.Nat.{ℕ, suc, ◌<◌}
 use lib.Bits.{bit_or}
-use lib.ListN.{get_or}
 use Rattle.scans.specs.First.{first_bad, each}
-use Rattle.scans.proofs.Bools.{both_ways, left_true, right_true}
+use Rattle.scans.proofs.Bools.{left_true, right_true}
 use Rattle.scans.proofs.Search.{each_suc}
-use Rattle.meaning.specs.Guards.{bit_of}
 use Rattle.meaning.specs.Jobs.{Job}
 use Rattle.meaning.specs.Rows.{forced, row_clear}
-use Rattle.words.specs.Places.{cell_of, cell_at}
+use Rattle.words.specs.Places.{cell_at}
 use Rattle.words.proofs.Bits.{bit_zero, bit_or_lem, bit_all}
 use Rattle.guards.specs.Guarded.{Guarded}
 use Rattle.groups.specs.declared.Told.{Told}

@@ -1,12 +1,11 @@
 -- The laws of nodes whose gate has no operand: what settles one keeps the others, and a walk along a time's clauses settles all that they name.
 -- Assumes nothing.
 use mathlib.Core.Path.{◌≡◌, refl, sym, ◌∙◌, ap, subst}
-use mathlib.Core.Bool.{true, false}
+use mathlib.Core.Bool.{true}
 use mathlib.Core.List.{List}
 use Prim.Native.Nat.{ℕ, zero, suc, ◌+◌, ◌-◌, ◌^◌, ◌≤◌, ◌<◌}
 use native.Mathlib.Decide.{dec_lt, ℕ_discrete}
 use native.Mathlib.Omega.{arith}
-use borrow.Author.Count.{below_more}
 use lib.ListN.{length, get_or, set}
 use Rattle.scans.proofs.Bools.{both_ways}
 use Rattle.meaning.specs.Values.{v_x, value}

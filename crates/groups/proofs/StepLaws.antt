@@ -16,7 +16,7 @@ use Rattle.words.specs.Places.{Forces}
 use Rattle.decoded.specs.Fields.{byte0, half1, half2, half3, node_of}
 use Rattle.groups.specs.Held.{pair_at, GateForces, Steps}
 use Rattle.groups.specs.Turns.{Wired}
-use Rattle.groups.specs.Sorted.{half0, Stands, Placed, Gathered, Sorted, Visitable, Visited, left, forced, Visits, ForcedBut}
+use Rattle.groups.specs.Sorted.{half0, Stands, Gathered, Sorted, Visitable, Visited, left, forced, Visits, ForcedBut}
 use Rattle.groups.specs.Steady.{Steady}
 use Rattle.groups.proofs.Pairs.{stored_there, stored_elsewhere}
 use Rattle.groups.proofs.SortLaws.{half1_with, half2_with, half3_with}

@@ -1,29 +1,28 @@
 -- The stimulus of a time, clause by clause.
 -- Assumes nothing.
 use mathlib.Core.Path.{◌≡◌, refl, sym, ◌∙◌, ap, subst, fun_ext}
-use mathlib.Core.Bool.{Bool, true, false, not, ◌&&◌, ◌||◌, cond, and-false}
+use mathlib.Core.Bool.{Bool, true, false, not, ◌&&◌, ◌||◌, and-false}
 use mathlib.Core.List.{List}
-use Prim.Native.Nat.{ℕ, suc, ◌<◌, ◌≤◌}
+use Prim.Native.Nat.{ℕ, suc, ◌<◌}
 use native.Mathlib.Decide.{ℕ_discrete}
 use native.Mathlib.Omega.{arith}
 use borrow.Author.Tests.{ne_eqb, not-true}
 use lib.Bits.{bit_or}
-use lib.Dec.{T, eqb}
+use lib.Dec.{T}
 use lib.ListN.{get_or}
 use Rattle.scans.specs.First.{each}
 use Rattle.scans.proofs.Bools.{is_true, of_true, same_test, and_left, and_right, and_both}
 use Rattle.scans.proofs.Search.{each_e, each_i}
-use Rattle.meaning.specs.Values.{Value, v_x, Cell, value, collision, join_cells, collides, bit}
+use Rattle.meaning.specs.Values.{Value, v_x, Cell, value, collision, join_cells, collides}
 use Rattle.meaning.specs.Guards.{bit_of, truth}
 use Rattle.meaning.specs.Jobs.{stimulus, same_side, on, Clause, Job, speaks, asks}
 use Rattle.meaning.specs.Rows.{asked, asked_by}
 use Rattle.meaning.proofs.Cells.{join_nothing, join_assoc}
-use Rattle.words.specs.Places.{cell_at}
 use Rattle.words.proofs.Bits.{bit_zero, bit_or_lem}
-use Rattle.decoded.specs.Fields.{half1, half3, clause_of, job_from}
+use Rattle.decoded.specs.Fields.{half1, half3, clause_of}
 use Rattle.decoded.proofs.ChainLaws.{Next}
 use Rattle.guards.specs.Guarded.{Guarded}
-use Rattle.groups.specs.Held.{pair_at, Held, Stimulates, asked_with, NarrowsBy}
+use Rattle.groups.specs.Held.{Held, Stimulates, asked_with, NarrowsBy}
 use Rattle.groups.proofs.Walks.{asked_more, asked_jump}
 
 -- where a clause is of the time, what it asks goes by its guard

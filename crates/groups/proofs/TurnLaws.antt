@@ -1,18 +1,15 @@
 -- Time by time at a place: as long as its case has not collided, the words are those of its rows.
 -- Assumes nothing.
-use mathlib.Core.Path.{◌≡◌, refl, sym, ◌∙◌, ap, subst}
-use mathlib.Core.Bool.{Bool, true, false, not, ◌&&◌, ◌||◌}
+use mathlib.Core.Path.{◌≡◌, sym, ◌∙◌, ap, subst}
+use mathlib.Core.Bool.{Bool, true, not}
 use mathlib.Core.List.{List}
 use Prim.Native.Nat.{ℕ, zero, suc, ◌<◌}
-use lib.Dec.{T}
 use lib.ListN.{get_or}
-use Rattle.scans.specs.First.{first_bad, each}
+use Rattle.scans.specs.First.{each}
 use Rattle.scans.proofs.Bools.{of_true}
 use Rattle.scans.proofs.Search.{each_e, first_bad_same}
-use Rattle.meaning.specs.Values.{Value, Cell, value, join_cells, collides}
-use Rattle.meaning.specs.Guards.{bit_of}
+use Rattle.meaning.specs.Values.{value, join_cells, collides}
 use Rattle.meaning.specs.Jobs.{operand, Job, WellFormed}
-use Rattle.meaning.specs.Gates.{arity}
 use Rattle.meaning.specs.Rows.{stimulus_at, forced, cell, row_clear}
 use Rattle.meaning.specs.Runs.{forces}
 use Rattle.meaning.specs.Cases.{met_at}
@@ -20,9 +17,8 @@ use Rattle.meaning.proofs.Values.{Free, read, free_value}
 use Rattle.meaning.proofs.Weakest.{forces_free}
 use Rattle.decoded.specs.Fields.{node_of, clause_of, job_from}
 use Rattle.guards.specs.Guarded.{Guarded}
-use Rattle.groups.specs.declared.Told.{Told}
 use Rattle.groups.specs.Held.{Held, Steps, Asking, Stimulates, Expects}
-use Rattle.groups.specs.Turns.{Wired, row_met, Alive, Turns}
+use Rattle.groups.specs.Turns.{Wired, Alive, Turns}
 
 -- lists with every reference within bounds are a well-formed job
 pub formed : (k n e : ℕ) (nodes expressions : List ℕ) (c : ℕ) (clauses : List ℕ) → Wired n nodes → Asking n e c clauses → WellFormed (job_from k n nodes expressions c clauses)

@@ -1,17 +1,15 @@
 -- The words of guards, expression by expression.
 -- Assumes nothing.
 use mathlib.Core.Path.{◌≡◌, refl, sym, ◌∙◌, ap}
-use mathlib.Core.Bool.{Bool, true, false, cond}
-use mathlib.Core.List.{List, [], ◌∷◌, ◌++◌}
+use mathlib.Core.Bool.{false, cond}
+use mathlib.Core.List.{List}
 use Prim.Native.Nat.{ℕ, zero, suc, ◌+◌, ◌*◌, ◌≤◌, ◌<◌}
 use native.Mathlib.Decide.{dec_lt, ℕ_discrete}
 use native.Mathlib.Omega.{arith}
 use borrow.Author.Tests.{lt-ltb, le-ltb}
-use lib.Dec.{ltb}
 use lib.ListN.{length, get_or, set, length-append, get_or-append, get_or-eq_default}
 use lib.Seq.{get_or-set_same, get_or-set_other, get_or-append-add}
-use Rattle.meaning.specs.Guards.{bit_of, Expression, truth_given, truths, truth}
-use Rattle.meaning.specs.Jobs.{Job}
+use Rattle.meaning.specs.Guards.{bit_of, Expression, truths, truth}
 use Rattle.words.specs.Places.{op_truth, ExpressionWord}
 use Rattle.words.proofs.Bits.{bit_zero}
 use Rattle.words.proofs.Expressions.{op_truth_lem}

@@ -14,7 +14,7 @@ use Rattle.scans.proofs.Bools.{says}
 use Rattle.stored.specs.Bytes.{byte_at}
 use Rattle.grammar.specs.Items.{Keyword, Mark, word, variable, number, mark, mark_byte, letters}
 use Rattle.grammar.specs.Points.{Point, step, finished}
-use Rattle.grammar.specs.Bytewise.{ready, spelling, digits, at, mark_of, word_of, tail, is_digit, fed_ready, fed_spelling, fed, onward, staying, or_else, marks, begun, begun_word, stops, run, reading}
+use Rattle.grammar.specs.Bytewise.{ready, spelling, digits, mark_of, word_of, tail, is_digit, fed_ready, fed_spelling, fed, onward, staying, or_else, marks, begun, begun_word, stops, run, reading}
 use Rattle.phrases.specs.Places.{Stands, NoGap}
 use Rattle.grammar.proofs.Options.{Each}
 use Rattle.grammar.proofs.Bytes.{mark_byte_lem, word_byte}

@@ -1,6 +1,6 @@
 -- What reading a guard at a place comes to, for each strength of operator.
 -- Assumes nothing.
-use Rattle.std.specs.Prelude.{◌≡◌, false, List, ◌∷◌, ℕ, ◌+◌, ◌*◌, ◌≤◌, ◌<◌, length, drop}
+use Rattle.std.specs.Prelude.{◌≡◌, false, List, ℕ, ◌+◌, ◌*◌, ◌≤◌, ◌<◌, length, drop}
 use Rattle.stored.specs.Bytes.{byte_at}
 use Rattle.texts.specs.Putting.{Puts}
 use Rattle.phrases.specs.declared.guards.GuardRead.{GuardRead}

@@ -1,6 +1,6 @@
 -- What the reader's functions say of places in the text: where gaps end, where a word or number ends, and how reading goes on from there.
 -- Assumes nothing.
-use Rattle.std.specs.Prelude.{◌≡◌, Bool, true, false, ◌&&◌, List, [], ◌∷◌, ◌++◌, ℕ, suc, ◌+◌, ◌*◌, ◌-◌, ◌≤◌, ◌<◌, leb, ltb, eqb, length, drop}
+use Rattle.std.specs.Prelude.{◌≡◌, Bool, true, false, ◌&&◌, List, ℕ, ◌+◌, ◌-◌, ◌≤◌, ◌<◌, leb, ltb, eqb, length}
 use Rattle.stored.specs.Bytes.{byte_at}
 use Rattle.phrases.specs.declared.items.Step.{Step}
 use Rattle.phrases.specs.declared.items.Step.TheVariants.{To, Stuck}

@@ -2,12 +2,12 @@
 -- Assumes nothing.
 use mathlib.Core.Path.{◌≡◌, refl, sym, ◌∙◌, ap, subst}
 use mathlib.Core.Logic.{◌⊎◌, inl, inr}
-use mathlib.Core.Bool.{Bool, true}
+use mathlib.Core.Bool.{true}
 use mathlib.Core.List.{List, [], ◌∷◌, ◌++◌}
 use Prim.Native.Nat.{ℕ, zero, suc, ◌+◌, ◌*◌, ◌≤◌, ◌<◌}
 use native.Mathlib.Omega.{arith}
 use borrow.Author.Tests.{le-leb}
-use lib.ListN.{length, get_or, drop, replicate, length-append, get_or-append}
+use lib.ListN.{length, drop, replicate, length-append, get_or-append}
 use Rattle.scans.specs.Refusals.{whole, in_order}
 use Rattle.scans.specs.Lists.{list_of}
 use Rattle.scans.proofs.Lists.{length_list_of}
@@ -17,17 +17,16 @@ use Rattle.stored.specs.declared.Size.{Size}
 use Rattle.stored.specs.declared.Refusal.{Refusal}
 use Rattle.stored.specs.declared.Read.{Read}
 use Rattle.stored.specs.declared.Read.TheVariants.{Accepted, Refused}
-use Rattle.stored.specs.Bytes.{byte_at, u16_at, Bytes}
+use Rattle.stored.specs.Bytes.{byte_at, Bytes}
 use Rattle.stored.specs.Layout.{sizes_of, header_sizes, records_of}
 use Rattle.stored.specs.Reading.{read_stages, refused, accepted_as, read_answer, room_ok, unpack_answer, lent, stated_read}
 use Rattle.stored.specs.Broken.{blocks_in, Limits}
 use Rattle.stored.specs.Decoding.{job_of}
 use Rattle.stored.specs.Operations.{Unpacks}
-use Rattle.stored.proofs.Accepted.{refused_done, accepted_sizes, read_sizes, read_bytes}
+use Rattle.stored.proofs.Accepted.{refused_done, accepted_sizes, read_bytes}
 use Rattle.stored.proofs.Parts.{Lengths}
 use Rattle.stored.proofs.Promise.{Promise, accepted_promise}
-use Rattle.decoded.specs.Fields.{record_word, clause_of, job_from, half2, Decoded}
-use Rattle.decoded.specs.Chains.{Chained}
+use Rattle.decoded.specs.Fields.{record_word, job_from, Decoded}
 use Rattle.decoded.proofs.Decoding.{Holds, decoded_holds, job_same, decoded}
 use Rattle.verdicts.proofs.Tables.{own_or_next}
 use Rattle.ready.specs.Readied.{Ready, Readied}

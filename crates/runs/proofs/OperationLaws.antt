@@ -6,13 +6,12 @@ use mathlib.Core.List.{List, [], ◌∷◌, ◌++◌}
 use Prim.Native.Nat.{ℕ, zero, suc, ◌^◌, ◌≤◌, ◌<◌}
 use native.Mathlib.Omega.{arith}
 use borrow.Author.Tests.{lt-ltb, le-ltb, le-leb, lt-leb}
-use lib.Dec.{ltb, leb}
+use lib.Dec.{leb}
 use lib.ListN.{length, drop, length-append}
 use Rattle.scans.specs.First.{each}
-use Rattle.scans.specs.Refusals.{Stage, whole, in_order}
+use Rattle.scans.specs.Refusals.{whole, in_order}
 use Rattle.scans.proofs.Order.{on_failed, on_passed, on_end}
-use Rattle.scans.proofs.Exactly.{in_order_append, skip_whole, refused_still, passed_on}
-use Rattle.meaning.specs.declared.CaseAnswer.{CaseAnswer}
+use Rattle.scans.proofs.Exactly.{in_order_append, refused_still, passed_on}
 use Rattle.meaning.specs.declared.JobAnswer.{JobAnswer}
 use Rattle.meaning.specs.Jobs.{Job}
 use Rattle.meaning.specs.Rows.{row_clear, row_numbers}
@@ -23,15 +22,14 @@ use Rattle.stored.specs.declared.Size.{Size}
 use Rattle.stored.specs.declared.Refusal.{Refusal}
 use Rattle.stored.specs.declared.Read.{Read}
 use Rattle.stored.specs.declared.Read.TheVariants.{Accepted, Refused}
-use Rattle.stored.specs.Layout.{header_sizes, records_of}
+use Rattle.stored.specs.Layout.{header_sizes}
 use Rattle.stored.specs.Reading.{refused, accepted_as, read_answer, lent, stated_read}
 use Rattle.stored.specs.Packing.{written}
-use Rattle.stored.specs.Decoding.{job_of}
 use Rattle.stored.proofs.Accepted.{refused_done, accepted_sizes}
 use Rattle.verdicts.specs.declared.Checked.{Checked}
 use Rattle.verdicts.specs.declared.CaseChecked.{CaseChecked}
 use Rattle.verdicts.specs.declared.RowAsked.{RowAsked}
-use Rattle.verdicts.specs.Running.{job_in, check_stages, check_answer, case_stages, one_case_answer, row_stages, row_answer, stated_checked, stated_case_checked, stated_row, GivesRow}
+use Rattle.verdicts.specs.Running.{job_in, check_stages, check_answer, case_stages, one_case_answer, row_answer, stated_checked, stated_case_checked, stated_row, GivesRow}
 use Rattle.ready.specs.Readied.{Ready, Readied}
 use Rattle.runs.specs.Steps.{Runnable, job_of_lists, case_from11, row_from12, row_answer_from11, GivesRowFrom11}
 

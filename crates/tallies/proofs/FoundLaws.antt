@@ -1,16 +1,15 @@
 -- One more group: the count goes on, and the least case stays or is found in it.
 -- Assumes nothing.
 use mathlib.Core.Path.{◌≡◌, refl, sym, ◌∙◌, ap, subst}
-use mathlib.Core.Bool.{Bool, true, false, not, ◌&&◌, cond}
-use Prim.Native.Nat.{ℕ, zero, suc, ◌+◌, ◌*◌, ◌-◌, ◌^◌, ◌≤◌, ◌<◌, min}
+use mathlib.Core.Bool.{Bool, true, false, not, ◌&&◌}
+use Prim.Native.Nat.{ℕ, ◌+◌, ◌*◌, ◌-◌, ◌^◌, ◌≤◌, ◌<◌, min}
 use native.Mathlib.Decide.{dec_lt}
 use native.Mathlib.Omega.{arith}
 use borrow.Author.Tests.{lt-ltb, le-ltb, ltb-true}
 use lib.Bits.{bit_and}
 use lib.Dec.{ltb}
 use lib.Pow.{pow-add, pow_mono}
-use Rattle.scans.specs.First.{first_bad}
-use Rattle.scans.proofs.Bools.{both_ways, left_true, right_true}
+use Rattle.scans.proofs.Bools.{left_true, right_true}
 use Rattle.scans.proofs.Search.{each_clear}
 use Rattle.meaning.specs.Guards.{bit_of}
 use Rattle.meaning.specs.Answers.{tally, least}

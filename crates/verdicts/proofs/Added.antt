@@ -6,7 +6,7 @@ use mathlib.Core.Bool.{Bool, true, false, ◌||◌}
 use mathlib.Core.List.{List, ◌++◌}
 use native.Mathlib.Decide.{dec_lt, ℕ_discrete}
 use native.Mathlib.Omega.{arith}
-use Prim.Native.Nat.{ℕ, suc, ◌*◌, ◌-◌, ◌/◌, ◌%◌, ◌≤◌, ◌<◌}
+use Prim.Native.Nat.{ℕ, suc, ◌*◌, ◌-◌, ◌/◌, ◌≤◌, ◌<◌}
 use lib.Dec.{T}
 use lib.ListN.{length, length-append}
 use Rattle.meaning.specs.Guards.{truth}
@@ -16,7 +16,6 @@ use Rattle.meaning.specs.Answers.{job_answer}
 use Rattle.meaning.proofs.Clauses.{asks_same, asks_side, until_le, latest_le}
 use Rattle.meaning.proofs.JobDemand.{is_holds, is_vacant}
 use Rattle.meaning.proofs.Added.{Kept, MoreStimulus, more_stimulus}
-use Rattle.stored.specs.Bytes.{byte_at}
 use Rattle.stored.specs.Layout.{Records, sizes_of, header_sizes, records_of}
 use Rattle.stored.specs.Packing.{Keeps}
 use Rattle.stored.specs.Decoding.{node_at, clause_at, job_of}

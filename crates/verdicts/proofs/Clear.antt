@@ -5,8 +5,7 @@ use mathlib.Core.Path.{◌≡◌}
 use mathlib.Core.Logic.{◌↔◌}
 use mathlib.Core.Bool.{true, false, not}
 use native.Mathlib.Omega.{arith}
-use Prim.Native.Nat.{ℕ, suc, ◌≤◌, ◌<◌}
-use lib.Dec.{T}
+use Prim.Native.Nat.{ℕ, suc}
 use Rattle.scans.specs.First.{each}
 use Rattle.scans.proofs.Bools.{is_true, of_true, is_false}
 use Rattle.scans.proofs.Search.{each_e, each_i, each_not}

@@ -10,7 +10,6 @@ use Rattle.scans.proofs.Lists.{length_list_of, list_of_at}
 use Rattle.meaning.specs.Values.{Value, v0, v1, v_x, number, cell_number}
 use Rattle.meaning.specs.Jobs.{Job}
 use Rattle.meaning.specs.Rows.{cell, row_numbers}
-use Rattle.meaning.specs.Runs.{States, Weakest}
 use Rattle.meaning.proofs.Values.{Free, free_value}
 use Rattle.meaning.proofs.Weakest.{row_states, rows_weakest}
 use Rattle.stored.specs.declared.Refusal.{Refusal}

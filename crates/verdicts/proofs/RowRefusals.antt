@@ -18,7 +18,7 @@ use Rattle.stored.specs.Reading.{refused}
 use Rattle.stored.specs.Packing.{written}
 use Rattle.stored.proofs.Accepted.{refused_done}
 use Rattle.verdicts.specs.Running.{job_in, case_stages, one_case_answer, row_stages, row_answer}
-use Rattle.verdicts.specs.Said.{InCase, CaseRefused, CollidesBy, RowRefused, EARLIER, TIME, ROOM, EMPTY}
+use Rattle.verdicts.specs.Said.{InCase, CollidesBy, RowRefused, EARLIER, TIME, ROOM, EMPTY}
 use Rattle.verdicts.proofs.Clear.{clear_iff, collides_iff}
 use Rattle.verdicts.proofs.Tables.{either_part, both_parts, test_or_rest}
 use Rattle.verdicts.proofs.Refusals.{placed, case_is, case_apart, case_refused, case_gives}

@@ -2,7 +2,6 @@
 -- Assumes nothing.
 use Rattle.texts.proofs.PutLaws.{front_length}
 use Rattle.assertions.proofs.AnswerLaws.{whole_to, whole_none, refused_limits, text_asked, refused_text, refused_room, written, room_says}
-use borrow.Author.Rules.{rules}
 use native.Mathlib.Omega.{arith}
 use Rattle.assertions.proofs.read_text.Goals as goal
 

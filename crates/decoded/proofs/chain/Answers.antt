@@ -1,10 +1,9 @@
 -- `chain`: the clauses from the loop's place on are chained.
 -- Assumes nothing.
-use mathlib.Core.Path.{◌≡◌, refl, ◌∙◌}
+use mathlib.Core.Path.{refl}
 use Prim.Native.Nat.{◌-◌}
-use lib.ListN.{length, get_or, length-set}
+use lib.ListN.{length-set}
 use Rattle.decoded.specs.Fields.{clause_of}
-use Rattle.decoded.specs.Chains.{Chained}
 use Rattle.decoded.proofs.ChainLaws.{chain_none, chain_down, chain_all}
 use borrow.Author.Rules.{rules}
 use native.Mathlib.Omega.{arith}

@@ -1,13 +1,9 @@
 -- `chain`: the clauses from the loop's place on are chained.
 -- Assumes nothing.
-use mathlib.Core.Path.{◌≡◌, refl, ◌∙◌}
-use Prim.Native.Nat.{◌-◌}
-use lib.ListN.{length, get_or, length-set}
+use mathlib.Core.Path.{◌≡◌}
+use lib.ListN.{length, get_or}
 use Rattle.decoded.specs.Fields.{clause_of}
 use Rattle.decoded.specs.Chains.{Chained}
-use Rattle.decoded.proofs.ChainLaws.{chain_none, chain_down, chain_all}
-use borrow.Author.Rules.{rules}
-use native.Mathlib.Omega.{arith}
 use Rattle.decoded.proofs.chain.Given as goal
 
 abbrev pub invariant-loop-i : goal.invariant-loop-i

@@ -1,10 +1,6 @@
 -- `clear_heads`: the heads before the loop's place say that there is no clause.
 -- Assumes nothing.
-use mathlib.Core.Path.{◌≡◌}
-use mathlib.Core.List.{◌++◌}
-use Prim.Native.Nat.{◌≤◌, ◌-◌}
 use borrow.Author.Fill.{fill_none}
-use lib.ListN.{length, drop, replicate}
 use Rattle.decoded.proofs.ChainLaws.{cleared_more, cleared_all}
 use borrow.Author.Rules.{rules}
 use native.Mathlib.Omega.{arith}

@@ -3,11 +3,7 @@
 use mathlib.Core.Path.{◌≡◌}
 use mathlib.Core.List.{◌++◌}
 use Prim.Native.Nat.{◌≤◌, ◌-◌}
-use borrow.Author.Fill.{fill_none}
 use lib.ListN.{length, drop, replicate}
-use Rattle.decoded.proofs.ChainLaws.{cleared_more, cleared_all}
-use borrow.Author.Rules.{rules}
-use native.Mathlib.Omega.{arith}
 use Rattle.decoded.proofs.clear_heads.Given as goal
 
 abbrev pub invariant-loop-t : goal.invariant-loop-t

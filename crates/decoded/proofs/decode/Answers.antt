@@ -1,8 +1,6 @@
 -- `decode`: the records before the loop's place are decoded, the others stay.
 -- Assumes nothing.
-use Prim.Native.Nat.{◌≤◌, ◌-◌}
-use Rattle.scans.proofs.Lists.{Filled, filling}
-use Rattle.decoded.specs.Fields.{record_word}
+use Rattle.scans.proofs.Lists.{filling}
 use Rattle.decoded.proofs.decode.Goals as goal
 
 pub loop-i-init : goal.loop-i-init

@@ -1,7 +1,7 @@
 -- `decode`: the records before the loop's place are decoded, the others stay.
 -- Assumes nothing.
 use Prim.Native.Nat.{◌≤◌, ◌-◌}
-use Rattle.scans.proofs.Lists.{Filled, filling}
+use Rattle.scans.proofs.Lists.{Filled}
 use Rattle.decoded.specs.Fields.{record_word}
 use Rattle.decoded.proofs.decode.Given as goal
 

@@ -1,8 +1,6 @@
 -- `last_time`: the largest time before the loop's place.
 -- Assumes nothing.
-use mathlib.Core.Path.{◌≡◌, ◌∙◌, ap}
-use Prim.Native.Nat.{◌≤◌, ◌-◌}
-use lib.ListN.{get_or}
+use mathlib.Core.Path.{◌∙◌, ap}
 use Rattle.meaning.specs.Jobs.{latest}
 use Rattle.decoded.specs.Fields.{clause_of}
 use Rattle.decoded.proofs.ChainLaws.{latest_none, latest_more}

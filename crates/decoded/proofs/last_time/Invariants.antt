@@ -1,13 +1,10 @@
 -- `last_time`: the largest time before the loop's place.
 -- Assumes nothing.
-use mathlib.Core.Path.{◌≡◌, ◌∙◌, ap}
+use mathlib.Core.Path.{◌≡◌}
 use Prim.Native.Nat.{◌≤◌, ◌-◌}
 use lib.ListN.{get_or}
 use Rattle.meaning.specs.Jobs.{latest}
 use Rattle.decoded.specs.Fields.{clause_of}
-use Rattle.decoded.proofs.ChainLaws.{latest_none, latest_more}
-use borrow.Author.Rules.{rules}
-use native.Mathlib.Omega.{arith}
 use Rattle.decoded.proofs.last_time.Given as goal
 
 abbrev pub invariant-loop-i : goal.invariant-loop-i

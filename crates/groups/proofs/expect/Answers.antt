@@ -1,12 +1,9 @@
 -- `expect`: the clauses before the loop's place are compared.
 -- Assumes nothing.
 use mathlib.Core.Path.{◌≡◌, refl}
-use mathlib.Core.List.{List}
-use Prim.Native.Nat.{ℕ, ◌-◌}
-use lib.ListN.{get_or}
 use Rattle.decoded.specs.Fields.{clause_of, job_from}
-use Rattle.groups.proofs.Walks.{Walking, walking, walk_first, walk_on}
-use Rattle.groups.proofs.ExpectLaws.{MissedTo, missed_to_none, missed_to_jump, missed_to_more, expects_all}
+use Rattle.groups.proofs.Walks.{walking, walk_first, walk_on}
+use Rattle.groups.proofs.ExpectLaws.{missed_to_none, missed_to_jump, missed_to_more, expects_all}
 use borrow.Author.Rules.{rules}
 use native.Mathlib.Omega.{arith}
 use Rattle.groups.proofs.expect.Goals as goal

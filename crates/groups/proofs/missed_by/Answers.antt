@@ -2,7 +2,6 @@
 -- Assumes nothing.
 use Rattle.groups.proofs.NarrowLaws.{is_expectation, is_stimulus}
 use Rattle.groups.proofs.ExpectLaws.{missed_not, missed_found}
-use borrow.Author.Rules.{rules}
 use Rattle.groups.proofs.missed_by.Goals as goal
 
 pub returns-then-first_byte-ne1 : goal.returns-then-first_byte-ne1

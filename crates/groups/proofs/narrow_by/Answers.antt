@@ -1,7 +1,6 @@
 -- `narrow_by` leaves an expectation alone, and narrows the node of a stimulus.
 -- Assumes nothing.
 use Rattle.groups.proofs.NarrowLaws.{is_expectation, is_stimulus, narrows_not, narrows_found}
-use borrow.Author.Rules.{rules}
 use native.Mathlib.Omega.{arith}
 use Rattle.groups.proofs.narrow_by.Goals as goal
 

@@ -1,12 +1,7 @@
 -- `run`: the times before the loop's place are done.
 -- Assumes nothing.
-use mathlib.Core.Path.{◌≡◌, refl}
-use mathlib.Core.List.{List}
-use Prim.Native.Nat.{ℕ, ◌-◌, ◌%◌, ◌≤◌, ◌<◌}
-use lib.ListN.{length}
-use Rattle.decoded.specs.Fields.{job_from}
-use Rattle.groups.proofs.RunLaws.{Running, running_none, running_more}
-use Rattle.groups.specs.Steady.{Steady}
+use mathlib.Core.Path.{refl}
+use Rattle.groups.proofs.RunLaws.{running_none, running_more}
 use native.Mathlib.Omega.{arith}
 use Rattle.groups.proofs.run.Goals as goal
 

@@ -1,13 +1,12 @@
 -- `run`: the times before the loop's place are done.
 -- Assumes nothing.
-use mathlib.Core.Path.{◌≡◌, refl}
+use mathlib.Core.Path.{◌≡◌}
 use mathlib.Core.List.{List}
 use Prim.Native.Nat.{ℕ, ◌-◌, ◌%◌, ◌≤◌, ◌<◌}
 use lib.ListN.{length}
 use Rattle.decoded.specs.Fields.{job_from}
-use Rattle.groups.proofs.RunLaws.{Running, running_none, running_more}
+use Rattle.groups.proofs.RunLaws.{Running}
 use Rattle.groups.specs.Steady.{Steady}
-use native.Mathlib.Omega.{arith}
 use Rattle.groups.proofs.run.Given as goal
 
 abbrev pub invariant-loop-t : goal.invariant-loop-t

@@ -1,15 +1,12 @@
 -- `stimulate`: the clauses before the loop's place are joined.
 -- Assumes nothing.
-use mathlib.Core.Path.{◌≡◌, refl, ◌∙◌}
+use mathlib.Core.Path.{◌≡◌}
 use mathlib.Core.List.{List}
 use Prim.Native.Nat.{ℕ, ◌-◌}
 use lib.ListN.{length, get_or}
 use Rattle.decoded.specs.Fields.{clause_of, job_from}
 use Rattle.groups.specs.Held.{Stimulates}
-use Rattle.groups.proofs.Walks.{Walking, walking, walk_first, walk_on}
-use Rattle.groups.proofs.StimulusLaws.{stimulates_none, stimulates_jump, stimulates_more}
-use borrow.Author.Rules.{rules}
-use native.Mathlib.Omega.{arith}
+use Rattle.groups.proofs.Walks.{Walking}
 use Rattle.groups.proofs.stimulate.Given as goal
 
 abbrev pub invariant-loop-i : goal.invariant-loop-i

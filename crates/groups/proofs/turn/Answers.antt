@@ -3,7 +3,6 @@
 use Rattle.groups.proofs.StepLaws.{visitable}
 use Rattle.groups.proofs.SteadyLaws.{steady_spared}
 use Rattle.groups.proofs.TurnLaws.{formed, turns}
-use borrow.Author.Rules.{rules}
 use native.Mathlib.Omega.{arith}
 use Rattle.groups.proofs.turn.Goals as goal
 

@@ -1,10 +1,6 @@
 -- `earlier` reads a word, or 0.
 -- Assumes nothing.
-use mathlib.Core.Path.{◌≡◌}
-use mathlib.Core.Bool.{cond}
-use lib.ListN.{get_or}
 use borrow.Author.Tests.{lt-ltb, le-ltb}
-use borrow.Author.Rules.{rules}
 use Rattle.guards.proofs.earlier.Goals as goal
 
 pub returns-then-a-i : goal.returns-then-a-i

@@ -1,9 +1,6 @@
 -- `guard_words`: the expressions before the loop's place have their words.
 -- Assumes nothing.
-use mathlib.Core.Path.{◌≡◌, sym, ◌∙◌}
-use Prim.Native.Nat.{◌≤◌, ◌-◌}
-use lib.ListN.{length, length-set}
-use Rattle.guards.specs.Guarded.{GuardWords}
+use mathlib.Core.Path.{sym, ◌∙◌}
 use Rattle.guards.proofs.GuardLaws.{guards_none, guards_more, guards_all}
 use borrow.Author.Rules.{rules}
 use native.Mathlib.Omega.{arith}

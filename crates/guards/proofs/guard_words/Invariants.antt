@@ -1,12 +1,9 @@
 -- `guard_words`: the expressions before the loop's place have their words.
 -- Assumes nothing.
-use mathlib.Core.Path.{◌≡◌, sym, ◌∙◌}
+use mathlib.Core.Path.{◌≡◌}
 use Prim.Native.Nat.{◌≤◌, ◌-◌}
-use lib.ListN.{length, length-set}
+use lib.ListN.{length}
 use Rattle.guards.specs.Guarded.{GuardWords}
-use Rattle.guards.proofs.GuardLaws.{guards_none, guards_more, guards_all}
-use borrow.Author.Rules.{rules}
-use native.Mathlib.Omega.{arith}
 use Rattle.guards.proofs.guard_words.Given as goal
 
 abbrev pub invariant-loop-i : goal.invariant-loop-i

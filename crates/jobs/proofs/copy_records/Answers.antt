@@ -1,9 +1,6 @@
 -- `copy_records`: the bytes before the loop's place are copied, the others stay.
 -- Assumes nothing.
-use mathlib.Core.Path.{◌≡◌}
-use Prim.Native.Nat.{◌≤◌, ◌-◌, ◌*◌}
-use Rattle.stored.specs.Layout.{record_byte}
-use Rattle.scans.proofs.Lists.{Filled, filling}
+use Rattle.scans.proofs.Lists.{filling}
 use Rattle.jobs.proofs.copy_records.Goals as goal
 
 pub overflow_mul-size : goal.overflow_mul-size

@@ -3,7 +3,7 @@
 use mathlib.Core.Path.{◌≡◌}
 use Prim.Native.Nat.{◌≤◌, ◌-◌, ◌*◌}
 use Rattle.stored.specs.Layout.{record_byte}
-use Rattle.scans.proofs.Lists.{Filled, filling}
+use Rattle.scans.proofs.Lists.{Filled}
 use Rattle.jobs.proofs.copy_records.Given as goal
 
 abbrev pub invariant-loop-q : goal.invariant-loop-q

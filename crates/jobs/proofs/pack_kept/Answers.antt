@@ -3,7 +3,6 @@
 use mathlib.Core.Path.{ap}
 use Prim.Native.Nat.{◌*◌}
 use Rattle.jobs.proofs.PackLaws.{pack_short, pack_done}
-use borrow.Author.Rules.{rules}
 use Rattle.jobs.proofs.pack_kept.Goals as goal
 
 pub returns-then-out-size : goal.returns-then-out-size

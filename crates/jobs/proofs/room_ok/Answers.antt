@@ -2,7 +2,6 @@
 -- Assumes nothing.
 use mathlib.Core.Path.{refl}
 use Rattle.scans.proofs.Bools.{le_fails, le_passes}
-use borrow.Author.Rules.{rules}
 use Rattle.jobs.proofs.room_ok.Goals as goal
 
 pub returns-then-z-nodes : goal.returns-then-z-nodes

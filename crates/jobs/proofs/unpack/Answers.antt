@@ -3,7 +3,6 @@
 use mathlib.Core.Path.{ap, ◌∙◌, sym}
 use Rattle.stored.specs.Reading.{stated_read}
 use Rattle.jobs.proofs.UnpackLaws.{unpack_refused}
-use borrow.Author.Rules.{rules}
 use Rattle.jobs.proofs.unpack.Goals as goal
 
 pub unpack_sized-requires : goal.unpack_sized-requires

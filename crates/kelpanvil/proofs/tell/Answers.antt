@@ -2,7 +2,6 @@
 -- Assumes nothing.
 use mathlib.Core.Path.{◌∙◌}
 use Rattle.kelpanvil.proofs.TellLaws.{tells, no_verdict}
-use borrow.Author.Rules.{rules}
 use Rattle.kelpanvil.proofs.tell.Goals as goal
 
 pub returns-in_default-verdict : goal.returns-in_default-verdict

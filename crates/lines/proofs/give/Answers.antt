@@ -1,7 +1,6 @@
 -- `give`: nothing, or the whole line.
 -- Assumes nothing.
 use Rattle.lines.proofs.GiveLaws.{gives_none, gives_all}
-use borrow.Author.Rules.{rules}
 use Rattle.lines.proofs.give.Goals as goal
 
 pub returns-then-out-line : goal.returns-then-out-line

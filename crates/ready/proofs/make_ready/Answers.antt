@@ -5,7 +5,6 @@ use Prim.Native.Nat.{ℕ}
 use lib.ListN.{length, length-replicate}
 use Rattle.stored.specs.Reading.{stated_read}
 use Rattle.ready.proofs.ReadyLaws.{read_is, accepts_is, small, means_is, decoded_is, ready_refused, ready_accepted}
-use borrow.Author.Rules.{rules}
 use native.Mathlib.Omega.{arith}
 use Rattle.ready.proofs.make_ready.Goals as goal
 

@@ -1,7 +1,6 @@
 -- `check`: refused by reading, or decided.
 -- Assumes nothing.
 use Rattle.runs.proofs.OperationLaws.{check_refuses, runnable, check_answers}
-use borrow.Author.Rules.{rules}
 use Rattle.runs.proofs.check.Goals as goal
 
 pub decide-requires : goal.decide-requires

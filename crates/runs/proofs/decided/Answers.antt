@@ -2,7 +2,6 @@
 -- Assumes nothing.
 use mathlib.Core.Path.{sym, ap}
 use Rattle.meaning.specs.Answers.{decided_by}
-use borrow.Author.Rules.{rules}
 use Rattle.runs.proofs.decided.Goals as goal
 
 pub returns-in-Passes : goal.returns-in-Passes

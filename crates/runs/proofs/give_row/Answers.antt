@@ -3,7 +3,6 @@
 use mathlib.Core.Path.{refl, ap}
 use borrow.Author.Tests.{not-true, not-false}
 use Rattle.runs.proofs.OperationLaws.{refused_as, row_11, row_12, row_13, row_14, row_given}
-use borrow.Author.Rules.{rules}
 use native.Mathlib.Omega.{arith}
 use Rattle.runs.proofs.give_row.Goals as goal
 

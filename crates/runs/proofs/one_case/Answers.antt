@@ -1,7 +1,6 @@
 -- `one_case`: refused by reading, or answered.
 -- Assumes nothing.
 use Rattle.runs.proofs.OperationLaws.{case_refuses, runnable, case_answers}
-use borrow.Author.Rules.{rules}
 use Rattle.runs.proofs.one_case.Goals as goal
 
 pub answer_case-requires : goal.answer_case-requires

@@ -1,7 +1,6 @@
 -- `row`: refused by reading, or given.
 -- Assumes nothing.
 use Rattle.runs.proofs.OperationLaws.{row_refuses, runnable, row_answers}
-use borrow.Author.Rules.{rules}
 use Rattle.runs.proofs.row.Goals as goal
 
 pub give_row-requires : goal.give_row-requires

@@ -1,10 +1,9 @@
 -- `check_word`: the sum so far is that of the words passed, modulo 2^32.
 -- Assumes nothing.
-use Rattle.std.proofs.Common.{◌≡◌, ◌-◌, ◌%◌, ◌^◌, ◌≤◌, arith, rules}
+use Rattle.std.proofs.Common.{◌≡◌, ◌-◌, ◌%◌, ◌^◌, ◌≤◌}
 use Rattle.stored.specs.Bytes.{word_sum}
 use Rattle.stored.specs.Layout.{plain_byte}
 use Rattle.stored.specs.Operations.{records_for}
-use Rattle.blocks.proofs.Words.{sum_none, word_more, check_is}
 use Rattle.storing.proofs.check_word.Given as goal
 
 abbrev pub invariant-loop-i : goal.invariant-loop-i

@@ -1,6 +1,5 @@
 -- `header_record` writes each size low byte first.
 -- Assumes nothing.
-use Rattle.std.proofs.Common.{rules}
 use Rattle.storing.proofs.header_record.Goals as goal
 
 pub returns : goal.returns

@@ -1,9 +1,6 @@
 -- `write_blocks`: the bytes before the loop's place are written, the others stay.
 -- Assumes nothing.
-use Rattle.std.proofs.Common.{◌-◌, ◌/◌, ◌%◌, ◌≤◌}
-use Rattle.stored.specs.Layout.{block_byte}
-use Rattle.stored.specs.Operations.{records_for}
-use Rattle.scans.proofs.Lists.{Filled, filling}
+use Rattle.scans.proofs.Lists.{filling}
 use Rattle.storing.proofs.write_blocks.Goals as goal
 
 pub loop-j-init : goal.loop-j-init

@@ -3,7 +3,7 @@
 use Rattle.std.proofs.Common.{◌-◌, ◌/◌, ◌%◌, ◌≤◌}
 use Rattle.stored.specs.Layout.{block_byte}
 use Rattle.stored.specs.Operations.{records_for}
-use Rattle.scans.proofs.Lists.{Filled, filling}
+use Rattle.scans.proofs.Lists.{Filled}
 use Rattle.storing.proofs.write_blocks.Given as goal
 
 abbrev pub invariant-loop-j : goal.invariant-loop-j

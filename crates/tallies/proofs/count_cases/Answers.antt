@@ -1,12 +1,6 @@
 -- `count_cases`: the cases of the groups before the loop's place are counted.
 -- Assumes nothing.
-use mathlib.Core.Path.{◌≡◌}
-use Prim.Native.Nat.{◌*◌, ◌-◌, ◌≤◌, min}
-use Rattle.meaning.specs.Answers.{failing, empty}
-use Rattle.decoded.specs.Fields.{job_from}
-use Rattle.tallies.specs.Counting.{FoundIn}
 use Rattle.tallies.proofs.FoundLaws.{cases_most, covers, found_start, found_small, found_so_far, found_all}
-use borrow.Author.Rules.{rules}
 use native.Mathlib.Omega.{arith}
 use Rattle.tallies.proofs.count_cases.Goals as goal
 

@@ -5,7 +5,6 @@ use Prim.Native.Nat.{◌+◌}
 use Rattle.meaning.proofs.Tallies.{tally_le}
 use Rattle.meaning.specs.Guards.{bit_of}
 use Rattle.tallies.proofs.FoundLaws.{count_more}
-use borrow.Author.Rules.{rules}
 use native.Mathlib.Omega.{arith}
 use Rattle.tallies.proofs.found_more.Goals as goal
 

@@ -1,7 +1,6 @@
 -- `least_of`: found before, none yet, or found in this group.
 -- Assumes nothing.
 use Rattle.tallies.proofs.FoundLaws.{least_stays, least_none, least_here}
-use borrow.Author.Rules.{rules}
 use Rattle.tallies.proofs.least_of.Goals as goal
 
 pub returns-then-found-gt0 : goal.returns-then-found-gt0

@@ -1,7 +1,6 @@
 -- `put_digit`: one byte.
 -- Assumes nothing.
 use Rattle.texts.proofs.PutLaws.{puts_byte}
-use borrow.Author.Rules.{rules}
 use Rattle.texts.proofs.put_digit.Goals as goal
 
 pub returns : goal.returns

@@ -1,8 +1,5 @@
 -- `put_text`: byte by byte.
 -- Assumes nothing.
-use Prim.Native.Nat.{◌+◌, ◌-◌, ◌≤◌}
-use lib.ListN.{length, take}
-use Rattle.texts.specs.Putting.{Puts}
 use Rattle.texts.proofs.PutLaws.{puts_none, puts_more, puts_all}
 use borrow.Author.Rules.{rules}
 use Rattle.texts.proofs.put_text.Goals as goal

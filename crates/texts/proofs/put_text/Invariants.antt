@@ -3,8 +3,6 @@
 use Prim.Native.Nat.{◌+◌, ◌-◌, ◌≤◌}
 use lib.ListN.{length, take}
 use Rattle.texts.specs.Putting.{Puts}
-use Rattle.texts.proofs.PutLaws.{puts_none, puts_more, puts_all}
-use borrow.Author.Rules.{rules}
 use Rattle.texts.proofs.put_text.Given as goal
 
 abbrev pub invariant-loop-i : goal.invariant-loop-i

@@ -1,6 +1,5 @@
 -- `used_places`: a table below 6, and every place from there on.
 -- Assumes nothing.
-use borrow.Author.Rules.{rules}
 use native.Mathlib.Omega.{arith}
 use Rattle.words.proofs.Tables.{used_in, used_all}
 use Rattle.words.proofs.used_places.Goals as goal

@@ -1,7 +1,6 @@
 -- `variable_within`: the formula's six words, tested at their 64 places.
 -- Assumes nothing.
 use Rattle.words.proofs.Tables.{run_below, step_fits, variable_in}
-use borrow.Author.Rules.{rules}
 use native.Mathlib.Omega.{arith}
 use Rattle.words.proofs.variable_within.Goals as goal
 

@@ -1,7 +1,6 @@
 -- `variable_word`: the formula below 6, and the bit of the group from there on.
 -- Assumes nothing.
 use Rattle.words.proofs.Tables.{variable_set, variable_clear}
-use borrow.Author.Rules.{rules}
 use native.Mathlib.Omega.{arith}
 use Rattle.words.proofs.variable_word.Goals as goal
 

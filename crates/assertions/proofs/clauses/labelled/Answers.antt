@@ -2,7 +2,6 @@
 -- Assumes nothing.
 use Rattle.phrases.proofs.Standing.{spelt_to, spelt_broken}
 use Rattle.assertions.proofs.SlotRuns.{labelled_touching, labelled_broken, labelled_close, labelled_number}
-use borrow.Author.Rules.{rules}
 use Rattle.assertions.proofs.clauses.labelled.Goals as goal
 
 pub returns-then-from-at : goal.returns-then-from-at

@@ -1,13 +1,10 @@
 -- `number`: digit by digit.
 -- Assumes nothing.
-use Prim.Native.Nat.{◌-◌}
 use mathlib.Core.Path.{◌≡◌, sym, ◌∙◌, subst}
 use mathlib.Core.Bool.{false}
-use lib.ListN.{length}
 use Rattle.phrases.specs.Places.{is_digit_at}
 use Rattle.phrases.proofs.Standing.{digit_is}
-use Rattle.assertions.proofs.SlotRuns.{Counting, counting_none, counting_most, counting_more, counting_large, counting_zero, counting_end, counting_empty}
-use borrow.Author.Rules.{rules}
+use Rattle.assertions.proofs.SlotRuns.{counting_none, counting_most, counting_more, counting_large, counting_zero, counting_end, counting_empty}
 use native.Mathlib.Omega.{arith}
 use Rattle.assertions.proofs.clauses.number.Goals as goal
 

@@ -4,7 +4,6 @@ use mathlib.Core.List.{[], ◌∷◌}
 use Rattle.grammar.specs.Items.{IS, AT}
 use Rattle.grammar.specs.Points.{saying, below, ending}
 use Rattle.assertions.proofs.TellRuns.{counted_to, counted_none, number_none, number_told, gaps_told}
-use borrow.Author.Rules.{rules}
 use Rattle.assertions.proofs.clauses.said.Goals as goal
 
 pub skip-requires : goal.skip-requires

@@ -6,7 +6,6 @@ use Rattle.grammar.proofs.Frames.{size_some}
 use Rattle.phrases.proofs.LevelLaws.{read_to, read_none}
 use Rattle.assertions.proofs.TellRuns.{told_to, told_none}
 use Rattle.assertions.proofs.ClauseRuns.{asked_guard, touched_none, guard_none, colon_none, rest_none, rest_to}
-use borrow.Author.Rules.{rules}
 use native.Mathlib.Omega.{arith}
 use Rattle.assertions.proofs.lists.guarded.Goals as goal
 

@@ -1,12 +1,8 @@
 -- `list`: the clauses before the place.
 -- Assumes nothing.
-use Prim.Native.Nat.{◌-◌}
-use lib.ListN.{length}
-use Rattle.assertions.specs.ListsRead.{ListTo}
 use Rattle.phrases.proofs.Standing.{stands, stands_not}
 use Rattle.assertions.proofs.ClauseRuns.{clause_to, clause_none}
 use Rattle.assertions.proofs.ListRuns.{list_none, list_more, list_stops, list_full, list_asked}
-use borrow.Author.Rules.{rules}
 use native.Mathlib.Omega.{arith}
 use Rattle.assertions.proofs.lists.list.Goals as goal
 

@@ -1,7 +1,6 @@
 -- `put_clause`: eight bytes put as a text.
 -- Assumes nothing.
 use Rattle.texts.proofs.PutLaws.{ended_at}
-use borrow.Author.Rules.{rules}
 use native.Mathlib.Omega.{arith}
 use Rattle.assertions.proofs.lists.put_clause.Goals as goal
 

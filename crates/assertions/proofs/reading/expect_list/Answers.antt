@@ -2,7 +2,6 @@
 -- Assumes nothing.
 use Rattle.assertions.proofs.ListRuns.{list_over, list_fails}
 use Rattle.assertions.proofs.TextRuns.{rest_touched, rest_fails, rest_open, rest_ends}
-use borrow.Author.Rules.{rules}
 use Rattle.assertions.proofs.reading.expect_list.Goals as goal
 
 pub skip-from-requires : goal.skip-from-requires

@@ -2,7 +2,6 @@
 -- Assumes nothing.
 use Rattle.assertions.proofs.ListRuns.{list_over, list_fails}
 use Rattle.assertions.proofs.TextRuns.{given_close, given_fails, given_read, asked_after}
-use borrow.Author.Rules.{rules}
 use Rattle.assertions.proofs.reading.given_list.Goals as goal
 
 pub skip-from-requires : goal.skip-from-requires

@@ -1,7 +1,6 @@
 -- `block_sum`: the sum so far is that of the words passed, modulo 2^32.
 -- Assumes nothing.
-use Rattle.std.proofs.Common.{◌≡◌, ◌-◌, ◌%◌, ◌^◌, ◌≤◌, arith, rules}
-use Rattle.stored.specs.Bytes.{word_sum, block_from}
+use Rattle.std.proofs.Common.{arith, rules}
 use Rattle.blocks.proofs.Words.{sum_none, sum_more, sum_all}
 use Rattle.blocks.proofs.numbers.block_sum.Goals as goal
 

@@ -1,8 +1,7 @@
 -- `block_sum`: the sum so far is that of the words passed, modulo 2^32.
 -- Assumes nothing.
-use Rattle.std.proofs.Common.{◌≡◌, ◌-◌, ◌%◌, ◌^◌, ◌≤◌, arith, rules}
+use Rattle.std.proofs.Common.{◌≡◌, ◌-◌, ◌%◌, ◌^◌, ◌≤◌}
 use Rattle.stored.specs.Bytes.{word_sum, block_from}
-use Rattle.blocks.proofs.Words.{sum_none, sum_more, sum_all}
 use Rattle.blocks.proofs.numbers.block_sum.Given as goal
 
 abbrev pub invariant-loop-i : goal.invariant-loop-i

@@ -1,9 +1,6 @@
 -- `first_broken`: the records before the loop's place keep their rule.
 -- Assumes nothing.
 use Rattle.scans.proofs.Search.{scans}
-use Rattle.std.proofs.Common.{◌-◌}
-use Rattle.scans.specs.First.{Passed}
-use Rattle.blocks.specs.Steps.{record_test}
 use Rattle.blocks.proofs.rules.first_broken.Goals as goal
 
 pub loop-i-init : goal.loop-i-init

@@ -1,6 +1,5 @@
 -- `first_broken`: the records before the loop's place keep their rule.
 -- Assumes nothing.
-use Rattle.scans.proofs.Search.{scans}
 use Rattle.std.proofs.Common.{◌-◌}
 use Rattle.scans.specs.First.{Passed}
 use Rattle.blocks.specs.Steps.{record_test}

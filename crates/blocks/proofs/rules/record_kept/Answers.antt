@@ -1,6 +1,5 @@
 -- `record_kept` looks at the record where it stands.
 -- Assumes nothing.
-use Rattle.std.proofs.Common.{rules}
 use Rattle.blocks.proofs.rules.record_kept.Goals as goal
 
 pub returns : goal.returns

@@ -3,7 +3,6 @@
 use mathlib.Core.Path.{sym, ◌∙◌, ap}
 use Rattle.verdicts.specs.Running.{stated_case_checked}
 use Rattle.boundary.specs.Answer.{ten_numbers}
-use borrow.Author.Rules.{rules}
 use Rattle.boundary.proofs.answers.of_case_checked.Goals as goal
 
 pub returns-in-Answered : goal.returns-in-Answered

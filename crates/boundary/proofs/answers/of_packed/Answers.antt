@@ -3,7 +3,6 @@
 use mathlib.Core.Path.{sym, ◌∙◌, ap}
 use Rattle.stored.specs.Packing.{stated_packed}
 use Rattle.boundary.specs.Answer.{ten_numbers}
-use borrow.Author.Rules.{rules}
 use Rattle.boundary.proofs.answers.of_packed.Goals as goal
 
 pub returns-in-Written : goal.returns-in-Written

@@ -3,7 +3,6 @@
 use mathlib.Core.Path.{sym, ◌∙◌, ap}
 use Rattle.verdicts.specs.Running.{stated_row}
 use Rattle.boundary.specs.Answer.{ten_numbers}
-use borrow.Author.Rules.{rules}
 use Rattle.boundary.proofs.answers.of_row_asked.Goals as goal
 
 pub returns-in-Written : goal.returns-in-Written

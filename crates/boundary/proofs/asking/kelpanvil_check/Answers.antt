@@ -1,7 +1,6 @@
 -- `kelpanvil_check`: no room, or the answer told.
 -- Assumes nothing.
 use Rattle.boundary.proofs.TellingLaws.{untold, told}
-use borrow.Author.Rules.{rules}
 use Rattle.boundary.proofs.asking.kelpanvil_check.Goals as goal
 
 pub returns-then-not-has_room : goal.returns-then-not-has_room

@@ -1,7 +1,6 @@
 -- `kelpanvil_one_case`: no room, or the answer told.
 -- Assumes nothing.
 use Rattle.boundary.proofs.TellingLaws.{untold, told}
-use borrow.Author.Rules.{rules}
 use Rattle.boundary.proofs.asking.kelpanvil_one_case.Goals as goal
 
 pub returns-then-not-has_room : goal.returns-then-not-has_room

@@ -1,7 +1,6 @@
 -- `kelpanvil_pack`: no room, or the answer told and the output as pack leaves it.
 -- Assumes nothing.
 use Rattle.boundary.proofs.TellingLaws.{pack_untold, pack_told}
-use borrow.Author.Rules.{rules}
 use Rattle.boundary.proofs.packing.kelpanvil_pack.Goals as goal
 
 pub returns-then-not-has_room : goal.returns-then-not-has_room

@@ -1,7 +1,6 @@
 -- `kelpanvil_row`: no room, or the answer told and the output as row leaves it.
 -- Assumes nothing.
 use Rattle.boundary.proofs.TellingLaws.{row_untold, row_told}
-use borrow.Author.Rules.{rules}
 use Rattle.boundary.proofs.rows.kelpanvil_row.Goals as goal
 
 pub returns-then-not-has_room : goal.returns-then-not-has_room

@@ -1,9 +1,7 @@
 -- `tell`: the bytes before the loop's place are written, the others stay.
 -- Assumes nothing.
-use Prim.Native.Nat.{◌≤◌, ◌-◌}
-use lib.ListN.{length}
-use Rattle.scans.proofs.Lists.{Filled, filled_none, filled_more}
-use Rattle.boundary.proofs.TellingLaws.{byte_of, room_says, numbers_untold, numbers_told}
+use Rattle.scans.proofs.Lists.{filled_none, filled_more}
+use Rattle.boundary.proofs.TellingLaws.{room_says, numbers_untold, numbers_told}
 use borrow.Author.Rules.{rules}
 use native.Mathlib.Omega.{arith}
 use Rattle.boundary.proofs.telling.tell.Goals as goal

@@ -2,10 +2,8 @@
 -- Assumes nothing.
 use Prim.Native.Nat.{◌≤◌, ◌-◌}
 use lib.ListN.{length}
-use Rattle.scans.proofs.Lists.{Filled, filled_none, filled_more}
-use Rattle.boundary.proofs.TellingLaws.{byte_of, room_says, numbers_untold, numbers_told}
-use borrow.Author.Rules.{rules}
-use native.Mathlib.Omega.{arith}
+use Rattle.scans.proofs.Lists.{Filled}
+use Rattle.boundary.proofs.TellingLaws.{byte_of}
 use Rattle.boundary.proofs.telling.tell.Given as goal
 
 abbrev pub invariant-loop-i : goal.invariant-loop-i

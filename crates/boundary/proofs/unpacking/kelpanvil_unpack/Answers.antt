@@ -1,7 +1,6 @@
 -- `kelpanvil_unpack`: no room, or the answer told and the lists as unpack leaves them.
 -- Assumes nothing.
 use Rattle.boundary.proofs.TellingLaws.{unpack_untold, unpack_told}
-use borrow.Author.Rules.{rules}
 use Rattle.boundary.proofs.unpacking.kelpanvil_unpack.Goals as goal
 
 pub returns-then-not-has_room : goal.returns-then-not-has_room

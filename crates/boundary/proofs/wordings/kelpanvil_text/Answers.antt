@@ -1,7 +1,6 @@
 -- `kelpanvil_text`: no room, or the answer told and the lists as read_text leaves them.
 -- Assumes nothing.
 use Rattle.boundary.proofs.TextLaws.{text_untold, text_told}
-use borrow.Author.Rules.{rules}
 use Rattle.boundary.proofs.wordings.kelpanvil_text.Goals as goal
 
 pub returns-then-not-has_room : goal.returns-then-not-has_room

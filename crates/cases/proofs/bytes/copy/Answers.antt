@@ -1,8 +1,6 @@
 -- `copy`: the bytes before the loop's place are copied, the others stay.
 -- Assumes nothing.
-use Prim.Native.Nat.{◌≤◌, ◌-◌}
-use lib.ListN.{get_or}
-use Rattle.scans.proofs.Lists.{Filled, filling}
+use Rattle.scans.proofs.Lists.{filling}
 use Rattle.cases.proofs.bytes.copy.Goals as goal
 
 pub loop-m-init : goal.loop-m-init

@@ -2,7 +2,7 @@
 -- Assumes nothing.
 use Prim.Native.Nat.{◌≤◌, ◌-◌}
 use lib.ListN.{get_or}
-use Rattle.scans.proofs.Lists.{Filled, filling}
+use Rattle.scans.proofs.Lists.{Filled}
 use Rattle.cases.proofs.bytes.copy.Given as goal
 
 abbrev pub invariant-loop-m : goal.invariant-loop-m

@@ -1,7 +1,6 @@
 -- `fill`: the bytes before the loop's place are written, the others stay.
 -- Assumes nothing.
-use Prim.Native.Nat.{◌≤◌, ◌-◌}
-use Rattle.scans.proofs.Lists.{Filled, filling}
+use Rattle.scans.proofs.Lists.{filling}
 use Rattle.cases.proofs.bytes.fill.Goals as goal
 
 pub loop-m-init : goal.loop-m-init

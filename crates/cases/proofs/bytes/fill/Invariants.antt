@@ -1,7 +1,7 @@
 -- `fill`: the bytes before the loop's place are written, the others stay.
 -- Assumes nothing.
 use Prim.Native.Nat.{◌≤◌, ◌-◌}
-use Rattle.scans.proofs.Lists.{Filled, filling}
+use Rattle.scans.proofs.Lists.{Filled}
 use Rattle.cases.proofs.bytes.fill.Given as goal
 
 abbrev pub invariant-loop-m : goal.invariant-loop-m

@@ -1,12 +1,7 @@
 -- `collided`: no byte before the loop's place says collision.
 -- Assumes nothing.
 use mathlib.Core.Path.{refl}
-use mathlib.Core.Bool.{not}
-use Prim.Native.Nat.{◌-◌}
-use lib.Dec.{eqb}
-use lib.ListN.{get_or}
 use borrow.Author.Tests.{eq-eqb, ne_eqb}
-use Rattle.scans.specs.First.{Passed}
 use Rattle.scans.proofs.Search.{scans, passed_bad, passed_more}
 use borrow.Author.Rules.{rules}
 use Rattle.cases.proofs.rows.collided.Goals as goal

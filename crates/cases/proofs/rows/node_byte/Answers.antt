@@ -1,7 +1,6 @@
 -- `node_byte` hands the operands' bytes to the gate.
 -- Assumes nothing.
 use Rattle.cases.proofs.RowLaws.{node_is}
-use borrow.Author.Rules.{rules}
 use native.Mathlib.Omega.{arith}
 use Rattle.cases.proofs.rows.node_byte.Goals as goal
 

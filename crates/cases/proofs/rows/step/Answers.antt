@@ -1,9 +1,6 @@
 -- `step`: the bytes before the loop's place are written, the others stay.
 -- Assumes nothing.
-use Prim.Native.Nat.{◌≤◌, ◌-◌}
-use lib.ListN.{get_or}
-use Rattle.scans.proofs.Lists.{Filled, filling}
-use Rattle.cases.specs.Forced.{node_byte}
+use Rattle.scans.proofs.Lists.{filling}
 use borrow.Author.Rules.{rules}
 use Rattle.cases.proofs.rows.step.Goals as goal
 

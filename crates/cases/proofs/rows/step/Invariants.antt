@@ -2,9 +2,8 @@
 -- Assumes nothing.
 use Prim.Native.Nat.{◌≤◌, ◌-◌}
 use lib.ListN.{get_or}
-use Rattle.scans.proofs.Lists.{Filled, filling}
+use Rattle.scans.proofs.Lists.{Filled}
 use Rattle.cases.specs.Forced.{node_byte}
-use borrow.Author.Rules.{rules}
 use Rattle.cases.proofs.rows.step.Given as goal
 
 abbrev pub invariant-loop-m : goal.invariant-loop-m

@@ -1,13 +1,10 @@
 -- `first_collision`: no row before the loop's time has collided, and the row is that of the time before.
 -- Assumes nothing.
 use Prim.Native.Nat.{◌+◌, ◌-◌, ◌≤◌}
-use mathlib.Core.Path.{◌≡◌, sym, ◌∙◌}
+use mathlib.Core.Path.{◌≡◌}
 use lib.ListN.{length}
 use Rattle.cases.specs.Found.{job_in, clear_at}
-use Rattle.cases.proofs.RowLaws.{collided_shows}
-use Rattle.cases.proofs.SearchLaws.{at_nowhere, guards_here, inside, walkable, row_shows, Reached, reached_first, reached_next, reached_found, reached_end, reached_last, reached_plain}
-use borrow.Author.Rules.{rules}
-use native.Mathlib.Omega.{arith}
+use Rattle.cases.proofs.SearchLaws.{Reached}
 use Rattle.cases.proofs.search.first_collision.Given as goal
 
 abbrev pub invariant-loop-t : goal.invariant-loop-t

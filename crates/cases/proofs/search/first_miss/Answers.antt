@@ -1,12 +1,8 @@
 -- `first_miss`: every earlier time is met, and at this time every node before the inner loop's place.
 -- Assumes nothing.
-use Prim.Native.Nat.{◌+◌, ◌-◌, ◌≤◌}
-use mathlib.Core.Path.{◌≡◌, sym, ◌∙◌}
-use lib.ListN.{length}
-use Rattle.scans.specs.First.{Passed}
+use mathlib.Core.Path.{sym, ◌∙◌}
 use Rattle.scans.proofs.Search.{passed_none, passed_more!, passed_bad!, passed_all}
-use Rattle.cases.specs.Found.{job_in, met_here}
-use Rattle.cases.proofs.SearchLaws.{at_nowhere, guards_here, inside, walkable, row_shows, Reached, reached_first, reached_next, reached_found, reached_end, reached_free, tells}
+use Rattle.cases.proofs.SearchLaws.{at_nowhere, guards_here, inside, walkable, row_shows, reached_first, reached_next, reached_found, reached_end, reached_free, tells}
 use Rattle.cases.proofs.AskedLaws.{marked_shows}
 use Rattle.cases.proofs.MissLaws.{met_shown}
 use borrow.Author.Rules.{rules}

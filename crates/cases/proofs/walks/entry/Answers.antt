@@ -1,6 +1,5 @@
 -- `entry` widens a number of the list.
 -- Assumes nothing.
-use borrow.Author.Rules.{rules}
 use native.Mathlib.Omega.{arith}
 use Rattle.cases.proofs.walks.entry.Goals as goal
 

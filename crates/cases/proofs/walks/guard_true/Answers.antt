@@ -1,7 +1,6 @@
 -- `guard_true` is the bit of the guard's word.
 -- Assumes nothing.
 use Rattle.cases.proofs.WalkLaws.{guard_bit}
-use borrow.Author.Rules.{rules}
 use Rattle.cases.proofs.walks.guard_true.Goals as goal
 
 pub returns : goal.returns

@@ -1,9 +1,8 @@
 -- `mark`: the clauses before the loop's place have had their turn.
 -- Assumes nothing.
-use Prim.Native.Nat.{◌-◌}
 use Rattle.meaning.specs.Jobs.{expectation}
 use Rattle.cases.specs.Marks.{mark_byte}
-use Rattle.cases.proofs.WalkLaws.{walk_in, Walking, walk_starts, walk_goes, walk_more, walk_ends, marks_made}
+use Rattle.cases.proofs.WalkLaws.{walk_in, walk_starts, walk_goes, walk_more, walk_ends, marks_made}
 use borrow.Author.Rules.{rules}
 use native.Mathlib.Omega.{arith}
 use Rattle.cases.proofs.walks.mark.Goals as goal

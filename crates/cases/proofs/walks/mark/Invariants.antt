@@ -3,9 +3,7 @@
 use Prim.Native.Nat.{◌-◌}
 use Rattle.meaning.specs.Jobs.{expectation}
 use Rattle.cases.specs.Marks.{mark_byte}
-use Rattle.cases.proofs.WalkLaws.{walk_in, Walking, walk_starts, walk_goes, walk_more, walk_ends, marks_made}
-use borrow.Author.Rules.{rules}
-use native.Mathlib.Omega.{arith}
+use Rattle.cases.proofs.WalkLaws.{Walking}
 use Rattle.cases.proofs.walks.mark.Given as goal
 
 abbrev pub invariant-loop-i : goal.invariant-loop-i

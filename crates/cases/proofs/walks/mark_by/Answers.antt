@@ -4,7 +4,6 @@ use mathlib.Core.Path.{◌∙◌}
 use Rattle.meaning.specs.Jobs.{expectation}
 use Rattle.cases.specs.Marks.{mark_byte}
 use Rattle.cases.proofs.WalkLaws.{not_expectation, is_expectation, no_turn, turn}
-use borrow.Author.Rules.{rules}
 use Rattle.cases.proofs.walks.mark_by.Goals as goal
 
 pub returns-then-first_byte-ne1 : goal.returns-then-first_byte-ne1

@@ -4,7 +4,6 @@ use mathlib.Core.Path.{◌∙◌}
 use Rattle.meaning.specs.Jobs.{stimulus}
 use Rattle.cases.specs.Shown.{join_byte}
 use Rattle.cases.proofs.WalkLaws.{not_stimulus, is_stimulus, no_turn, turn}
-use borrow.Author.Rules.{rules}
 use Rattle.cases.proofs.walks.narrow_by.Goals as goal
 
 pub returns-then-first_byte-eq1 : goal.returns-then-first_byte-eq1

@@ -1,9 +1,8 @@
 -- `stimulate`: the clauses before the loop's place have had their turn.
 -- Assumes nothing.
-use Prim.Native.Nat.{◌-◌}
 use Rattle.meaning.specs.Jobs.{stimulus}
 use Rattle.cases.specs.Shown.{join_byte}
-use Rattle.cases.proofs.WalkLaws.{Walking, walk_starts, walk_goes, walk_more, walk_ends}
+use Rattle.cases.proofs.WalkLaws.{walk_starts, walk_goes, walk_more, walk_ends}
 use borrow.Author.Rules.{rules}
 use native.Mathlib.Omega.{arith}
 use Rattle.cases.proofs.walks.stimulate.Goals as goal

@@ -3,9 +3,7 @@
 use Prim.Native.Nat.{◌-◌}
 use Rattle.meaning.specs.Jobs.{stimulus}
 use Rattle.cases.specs.Shown.{join_byte}
-use Rattle.cases.proofs.WalkLaws.{Walking, walk_starts, walk_goes, walk_more, walk_ends}
-use borrow.Author.Rules.{rules}
-use native.Mathlib.Omega.{arith}
+use Rattle.cases.proofs.WalkLaws.{Walking}
 use Rattle.cases.proofs.walks.stimulate.Given as goal
 
 abbrev pub invariant-loop-i : goal.invariant-loop-i

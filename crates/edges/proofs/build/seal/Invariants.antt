@@ -1,6 +1,6 @@
 -- `seal` is safe and ends: the blocks that are left fall.
 -- Assumes nothing.
-use Rattle.std.proofs.Common.{◌≡◌, ◌-◌, length, rules}
+use Rattle.std.proofs.Common.{◌≡◌, ◌-◌, length}
 use Rattle.edges.proofs.build.seal.Given as goal
 
 abbrev pub invariant-loop-b : goal.invariant-loop-b

@@ -1,6 +1,6 @@
 -- `sum` is safe and ends: the words that are left fall.
 -- Assumes nothing.
-use Rattle.std.proofs.Common.{◌-◌, rules}
+use Rattle.std.proofs.Common.{◌-◌}
 use Rattle.edges.proofs.build.sum.Given as goal
 
 abbrev pub invariant-loop-i : goal.invariant-loop-i

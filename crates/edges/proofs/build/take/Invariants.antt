@@ -1,6 +1,6 @@
 -- `take` is safe and ends: the records that are left fall.
 -- Assumes nothing.
-use Rattle.std.proofs.Common.{◌≡◌, ◌-◌, length, rules}
+use Rattle.std.proofs.Common.{◌≡◌, ◌-◌, length}
 use Rattle.edges.proofs.build.take.Given as goal
 
 abbrev pub invariant-loop-i : goal.invariant-loop-i

@@ -1,7 +1,7 @@
 -- `byte` is the list's element, and 0 past its end.
 -- Assumes nothing.
 use lib.ListN.{get_or-eq_default}
-use Rattle.std.proofs.Common.{sym, rules}
+use Rattle.std.proofs.Common.{sym}
 use Rattle.edges.proofs.bytes.byte.Goals as goal
 
 pub returns-else-at-s : goal.returns-else-at-s

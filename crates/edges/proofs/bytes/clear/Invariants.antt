@@ -1,6 +1,6 @@
 -- `clear` is safe and ends: the bytes that are left fall.
 -- Assumes nothing.
-use Rattle.std.proofs.Common.{◌≡◌, ◌-◌, length, rules}
+use Rattle.std.proofs.Common.{◌≡◌, ◌-◌, length}
 use Rattle.edges.proofs.bytes.clear.Given as goal
 
 abbrev pub invariant-loop-i : goal.invariant-loop-i

@@ -1,6 +1,6 @@
 -- `front` is the first elements, or all if there are fewer.
 -- Assumes nothing.
-use Rattle.std.proofs.Common.{sym, arith, length-take, take_all, rules}
+use Rattle.std.proofs.Common.{sym, arith, length-take, take_all}
 use Rattle.edges.proofs.bytes.front.Goals as goal
 
 pub slice_bounds-result-end : goal.slice_bounds-result-end

@@ -1,6 +1,6 @@
 -- `kept` is safe and ends: the bytes that are left fall.
 -- Assumes nothing.
-use Rattle.std.proofs.Common.{◌-◌, length, rules}
+use Rattle.std.proofs.Common.{◌-◌, length}
 use Rattle.edges.proofs.bytes.kept.Given as goal
 
 abbrev pub invariant-loop-i : goal.invariant-loop-i

@@ -1,7 +1,7 @@
 -- `put` sets the element, and nothing past the end.
 -- Assumes nothing.
 use lib.Seq.{set_out}
-use Rattle.std.proofs.Common.{sym, rules}
+use Rattle.std.proofs.Common.{sym}
 use Rattle.edges.proofs.bytes.put.Goals as goal
 
 pub returns-else-at-s : goal.returns-else-at-s

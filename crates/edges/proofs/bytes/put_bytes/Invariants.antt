@@ -1,6 +1,6 @@
 -- `put_bytes` is safe and ends: the bytes that are left fall.
 -- Assumes nothing.
-use Rattle.std.proofs.Common.{◌≡◌, ◌-◌, length, rules}
+use Rattle.std.proofs.Common.{◌≡◌, ◌-◌, length}
 use Rattle.edges.proofs.bytes.put_bytes.Given as goal
 
 abbrev pub invariant-loop-i : goal.invariant-loop-i

@@ -1,6 +1,6 @@
 -- `same` is safe and ends: the bytes that are left fall.
 -- Assumes nothing.
-use Rattle.std.proofs.Common.{◌-◌, rules}
+use Rattle.std.proofs.Common.{◌-◌}
 use Rattle.edges.proofs.bytes.same.Given as goal
 
 abbrev pub invariant-loop-i : goal.invariant-loop-i

@@ -1,6 +1,6 @@
 -- `line_end` meets its contract: what it passes lies between the start and the last byte.
 -- Assumes nothing.
-use Rattle.std.proofs.Common.{◌-◌, ◌≤◌, rules}
+use Rattle.std.proofs.Common.{◌-◌, ◌≤◌}
 use Rattle.edges.proofs.lines.line_end.Given as goal
 
 abbrev pub invariant-loop-i : goal.invariant-loop-i

@@ -1,11 +1,8 @@
 -- `renew`: the nodes of the clauses before the loop's place are settled.
 -- Assumes nothing.
-use mathlib.Core.Path.{◌≡◌, refl}
-use Prim.Native.Nat.{◌-◌}
-use lib.ListN.{length, get_or}
+use mathlib.Core.Path.{refl}
 use Rattle.decoded.specs.Fields.{clause_of}
-use Rattle.groups.specs.Steady.{SteadyBut}
-use Rattle.groups.proofs.Walks.{Walking, walking, walk_first, walk_on}
+use Rattle.groups.proofs.Walks.{walking, walk_first, walk_on}
 use Rattle.groups.proofs.SteadyLaws.{steady_but_jump, steady_but_more, steady_but_all}
 use borrow.Author.Rules.{rules}
 use native.Mathlib.Omega.{arith}

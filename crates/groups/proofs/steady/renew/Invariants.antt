@@ -1,14 +1,11 @@
 -- `renew`: the nodes of the clauses before the loop's place are settled.
 -- Assumes nothing.
-use mathlib.Core.Path.{◌≡◌, refl}
+use mathlib.Core.Path.{◌≡◌}
 use Prim.Native.Nat.{◌-◌}
 use lib.ListN.{length, get_or}
 use Rattle.decoded.specs.Fields.{clause_of}
 use Rattle.groups.specs.Steady.{SteadyBut}
-use Rattle.groups.proofs.Walks.{Walking, walking, walk_first, walk_on}
-use Rattle.groups.proofs.SteadyLaws.{steady_but_jump, steady_but_more, steady_but_all}
-use borrow.Author.Rules.{rules}
-use native.Mathlib.Omega.{arith}
+use Rattle.groups.proofs.Walks.{Walking}
 use Rattle.groups.proofs.steady.renew.Given as goal
 
 abbrev pub invariant-loop-i : goal.invariant-loop-i

@@ -1,12 +1,9 @@
 -- `settle`: the nodes before the loop's place are settled.
 -- Assumes nothing.
 use Prim.Native.Nat.{◌≤◌, ◌-◌}
-use mathlib.Core.Path.{◌≡◌, refl}
+use mathlib.Core.Path.{◌≡◌}
 use lib.ListN.{length}
 use Rattle.groups.specs.Steady.{Steady}
-use Rattle.groups.proofs.SteadyLaws.{steady_none, steady_more}
-use borrow.Author.Rules.{rules}
-use native.Mathlib.Omega.{arith}
 use Rattle.groups.proofs.steady.settle.Given as goal
 
 abbrev pub invariant-loop-m : goal.invariant-loop-m

@@ -1,7 +1,6 @@
 -- `settle_node`: the node's two words are stored.
 -- Assumes nothing.
 use Rattle.groups.proofs.SteadyLaws.{settles}
-use borrow.Author.Rules.{rules}
 use native.Mathlib.Omega.{arith}
 use Rattle.groups.proofs.steady.settle_node.Goals as goal
 

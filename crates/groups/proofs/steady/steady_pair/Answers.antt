@@ -1,7 +1,6 @@
 -- `steady_pair`: a gate without operands is handed any.
 -- Assumes nothing.
 use Rattle.groups.proofs.SteadyLaws.{steady_forces}
-use borrow.Author.Rules.{rules}
 use Rattle.groups.proofs.steady.steady_pair.Goals as goal
 
 pub returns : goal.returns

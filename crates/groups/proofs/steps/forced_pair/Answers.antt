@@ -1,7 +1,6 @@
 -- `forced_pair` hands the operands' words to the gate.
 -- Assumes nothing.
 use Rattle.groups.proofs.StepLaws.{gate_forces_lem}
-use borrow.Author.Rules.{rules}
 use Rattle.groups.proofs.steps.forced_pair.Goals as goal
 
 pub returns : goal.returns

@@ -1,8 +1,6 @@
 -- `gather`: the nodes before the loop's place are put in, or left out.
 -- Assumes nothing.
-use Prim.Native.Nat.{◌≤◌, ◌-◌}
 use mathlib.Core.Path.{◌≡◌}
-use Rattle.groups.specs.Sorted.{Gathers}
 use Rattle.groups.proofs.SortLaws.{gathers_none, gathers_skip, gathers_more}
 use borrow.Author.Rules.{rules}
 use native.Mathlib.Omega.{arith}

@@ -1,12 +1,7 @@
 -- `gather`: the nodes before the loop's place are put in, or left out.
 -- Assumes nothing.
 use Prim.Native.Nat.{◌≤◌, ◌-◌}
-use mathlib.Core.Path.{◌≡◌}
-use mathlib.Core.Logic.{⊎_elim}
 use Rattle.groups.specs.Sorted.{Gathers}
-use Rattle.groups.proofs.SortLaws.{gathers_none, gathers_skip, gathers_more}
-use borrow.Author.Rules.{rules}
-use native.Mathlib.Omega.{arith}
 use Rattle.groups.proofs.steps.gather.Given as goal
 
 abbrev pub invariant-loop-m : goal.invariant-loop-m

@@ -1,10 +1,8 @@
 -- `sort`: the codes before the loop's place are sorted.
 -- Assumes nothing.
-use Prim.Native.Nat.{◌≤◌, ◌-◌}
-use mathlib.Core.Path.{◌≡◌, refl, ◌∙◌}
-use lib.ListN.{length, length-set}
-use Rattle.groups.proofs.SortLaws.{Sorting, sorting_none, sorting_more, sorted_all}
-use borrow.Author.Rules.{rules}
+use mathlib.Core.Path.{refl, ◌∙◌}
+use lib.ListN.{length-set}
+use Rattle.groups.proofs.SortLaws.{sorting_none, sorting_more, sorted_all}
 use native.Mathlib.Omega.{arith}
 use Rattle.groups.proofs.steps.sort.Goals as goal
 

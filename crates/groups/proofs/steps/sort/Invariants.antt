@@ -1,11 +1,9 @@
 -- `sort`: the codes before the loop's place are sorted.
 -- Assumes nothing.
 use Prim.Native.Nat.{◌≤◌, ◌-◌}
-use mathlib.Core.Path.{◌≡◌, refl, ◌∙◌}
-use lib.ListN.{length, length-set}
-use Rattle.groups.proofs.SortLaws.{Sorting, sorting_none, sorting_more, sorted_all}
-use borrow.Author.Rules.{rules}
-use native.Mathlib.Omega.{arith}
+use mathlib.Core.Path.{◌≡◌}
+use lib.ListN.{length}
+use Rattle.groups.proofs.SortLaws.{Sorting}
 use Rattle.groups.proofs.steps.sort.Given as goal
 
 abbrev pub invariant-loop-code : goal.invariant-loop-code

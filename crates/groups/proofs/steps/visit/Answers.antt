@@ -1,9 +1,8 @@
 -- `visit`: the gates before the loop's place are visited.
 -- Assumes nothing.
-use Prim.Native.Nat.{◌+◌, ◌≤◌, ◌-◌}
+use Prim.Native.Nat.{◌+◌}
 use mathlib.Core.Path.{◌≡◌, refl}
-use lib.ListN.{length, get_or}
-use Rattle.groups.specs.Sorted.{Visits}
+use lib.ListN.{get_or}
 use Rattle.groups.proofs.StepLaws.{visits_none, visits_more}
 use borrow.Author.Rules.{rules}
 use native.Mathlib.Omega.{arith}

@@ -1,12 +1,9 @@
 -- `visit`: the gates before the loop's place are visited.
 -- Assumes nothing.
-use Prim.Native.Nat.{◌+◌, ◌≤◌, ◌-◌}
-use mathlib.Core.Path.{◌≡◌, refl}
-use lib.ListN.{length, get_or}
+use Prim.Native.Nat.{◌≤◌, ◌-◌}
+use mathlib.Core.Path.{◌≡◌}
+use lib.ListN.{length}
 use Rattle.groups.specs.Sorted.{Visits}
-use Rattle.groups.proofs.StepLaws.{visits_none, visits_more}
-use borrow.Author.Rules.{rules}
-use native.Mathlib.Omega.{arith}
 use Rattle.groups.proofs.steps.visit.Given as goal
 
 abbrev pub invariant-loop-i : goal.invariant-loop-i

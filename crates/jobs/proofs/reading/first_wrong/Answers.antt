@@ -1,9 +1,6 @@
 -- `first_wrong`: the blocks before the loop's place pass their test.
 -- Assumes nothing.
 use Rattle.scans.proofs.Search.{scans}
-use Prim.Native.Nat.{◌-◌}
-use Rattle.scans.specs.First.{Passed}
-use Rattle.jobs.specs.Steps.{block_test}
 use Rattle.jobs.proofs.reading.first_wrong.Goals as goal
 
 pub loop-b-init : goal.loop-b-init

@@ -1,6 +1,5 @@
 -- `first_wrong`: the blocks before the loop's place pass their test.
 -- Assumes nothing.
-use Rattle.scans.proofs.Search.{scans}
 use Prim.Native.Nat.{◌-◌}
 use Rattle.scans.specs.First.{Passed}
 use Rattle.jobs.specs.Steps.{block_test}

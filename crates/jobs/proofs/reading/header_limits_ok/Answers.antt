@@ -1,6 +1,5 @@
 -- `header_limits_ok` looks at what the header says.
 -- Assumes nothing.
-use borrow.Author.Rules.{rules}
 use Rattle.jobs.proofs.reading.header_limits_ok.Goals as goal
 
 pub returns : goal.returns

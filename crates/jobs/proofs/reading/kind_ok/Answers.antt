@@ -1,6 +1,5 @@
 -- `kind_ok` compares the block's kind.
 -- Assumes nothing.
-use borrow.Author.Rules.{rules}
 use Rattle.jobs.proofs.reading.kind_ok.Goals as goal
 
 pub returns : goal.returns

@@ -1,9 +1,7 @@
 -- `rest_ok`: the bytes before the loop's place are used or 0.
 -- Assumes nothing.
 use Rattle.scans.proofs.Search.{scans}
-use Prim.Native.Nat.{◌-◌}
-use Rattle.scans.specs.First.{Passed}
-use Rattle.stored.specs.Reading.{rest_byte_ok, rest_ok}
+use Rattle.stored.specs.Reading.{rest_ok}
 use Rattle.jobs.proofs.reading.rest_ok.Goals as goal
 
 pub loop-o-init : goal.loop-o-init

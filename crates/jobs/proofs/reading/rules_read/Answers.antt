@@ -4,7 +4,6 @@ use mathlib.Core.Path.{sym, ap, ◌∙◌}
 use Rattle.stored.specs.Reading.{accepted_as}
 use Rattle.blocks.specs.Steps.{followed}
 use Rattle.blocks.proofs.Spots.{rules_answer}
-use borrow.Author.Rules.{rules}
 use Rattle.jobs.proofs.reading.rules_read.Goals as goal
 
 pub returns-in-Kept : goal.returns-in-Kept

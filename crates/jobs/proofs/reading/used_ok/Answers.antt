@@ -1,6 +1,5 @@
 -- `used_ok` compares the block's used count.
 -- Assumes nothing.
-use borrow.Author.Rules.{rules}
 use Rattle.jobs.proofs.reading.used_ok.Goals as goal
 
 pub returns : goal.returns

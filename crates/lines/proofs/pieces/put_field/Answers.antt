@@ -2,7 +2,6 @@
 -- Assumes nothing.
 use Rattle.texts.proofs.DecimalLaws.{decimal_length}
 use Rattle.texts.proofs.PutLaws.{puts_then}
-use borrow.Author.Rules.{rules}
 use native.Mathlib.Omega.{arith}
 use Rattle.lines.proofs.pieces.put_field.Goals as goal
 

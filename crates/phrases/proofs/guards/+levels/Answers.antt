@@ -1,19 +1,13 @@
 -- The levels of a guard: each joins what the next one reads, and brackets hold a whole guard again.
 -- Assumes nothing.
-use Prim.Native.Nat.{◌+◌, ◌-◌, ◌*◌}
-use borrow.Author.Rules.{rules}
 use borrow.Author.Tests.{not-true, not-false}
 use mathlib.Core.Path.{refl, sym, ◌∙◌}
-use mathlib.Core.List.{List}
-use lib.ListN.{length}
 use Rattle.grammar.specs.Items.{AND, XOR, OR}
-use Rattle.phrases.specs.GuardsRead.{GuardTo}
 use Rattle.phrases.proofs.Standing.{stands, stands_not}
 use Rattle.grammar.proofs.Frames.{size_some}
 use Rattle.phrases.proofs.LevelLaws.{read_to, read_none, negated_to, negated_none, negated_full, grouped_to, grouped_none, grouped_open, grouped_deep, asked_right, asked_inside}
 use Rattle.phrases.proofs.ChainLaws.{chain_first, chain_nothing, chain_end, chain_full, chain_none, chain_more}
 use native.Mathlib.Omega.{arith}
-use Prim.Native.Nat.{ℕ, ◌<◌}
 use Rattle.phrases.proofs.guards.+levels.Goals as goal
 
 pub both-single-first-requires : goal.both-single-first-requires

@@ -3,7 +3,6 @@
 use mathlib.Core.Path.{refl}
 use Rattle.phrases.proofs.Standing.{stands, stands_not, letter_is, letter_not}
 use Rattle.phrases.proofs.LevelLaws.{letter_to, constant_to, operand_none}
-use borrow.Author.Rules.{rules}
 use native.Mathlib.Omega.{arith}
 use Rattle.phrases.proofs.guards.operand.Goals as goal
 

@@ -1,7 +1,6 @@
 -- `put_expression`: eight bytes put as a text.
 -- Assumes nothing.
 use Rattle.texts.proofs.PutLaws.{ended_at}
-use borrow.Author.Rules.{rules}
 use Rattle.phrases.proofs.guards.put_expression.Goals as goal
 
 pub returns : goal.returns

@@ -1,10 +1,6 @@
 -- `skip`: gaps up to the place so far.
 -- Assumes nothing.
-use Prim.Native.Nat.{◌-◌}
-use lib.ListN.{length}
-use Rattle.phrases.specs.Places.{Gaps}
 use Rattle.phrases.proofs.Gapped.{gaps_none, gaps_more, gaps_end, gaps_over}
-use borrow.Author.Rules.{rules}
 use Rattle.phrases.proofs.items.skip.Goals as goal
 
 pub loop-q-init : goal.loop-q-init

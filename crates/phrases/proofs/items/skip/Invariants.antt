@@ -3,8 +3,6 @@
 use Prim.Native.Nat.{◌-◌}
 use lib.ListN.{length}
 use Rattle.phrases.specs.Places.{Gaps}
-use Rattle.phrases.proofs.Gapped.{gaps_none, gaps_more, gaps_end, gaps_over}
-use borrow.Author.Rules.{rules}
 use Rattle.phrases.proofs.items.skip.Given as goal
 
 abbrev pub invariant-loop-q : goal.invariant-loop-q

@@ -1,10 +1,8 @@
 -- `spell`: the letters before the place stand.
 -- Assumes nothing.
-use Prim.Native.Nat.{◌+◌, ◌-◌, ◌≤◌}
+use Prim.Native.Nat.{◌+◌}
 use borrow.Author.Tests.{not-false}
 use mathlib.Core.Path.{refl}
-use lib.ListN.{length}
-use Rattle.phrases.specs.Places.{Letters}
 use Rattle.phrases.proofs.Standing.{stands, letters_none, letters_more, letters_broken, letters_all}
 use borrow.Author.Rules.{rules}
 use native.Mathlib.Omega.{arith}
