@@ -11,6 +11,8 @@ mod records;
 mod show;
 mod unpacking;
 
+ghost use Rattle.std.specs.Prelude.{◌≤◌, length};
+
 use crate::bytes::front;
 use crate::lines::{begins, line_end, row_of};
 use std::io::Read;
@@ -40,7 +42,9 @@ fn run(to: Stdout, tests: &[u8], job: &mut [u8]) {
 }
 
 // Reads until the buffer is full, the input ends or it cannot be read, and says how many bytes came.
-fn read_full(input: &mut Stdin, buffer: &mut [u8]) -> usize {
+fn read_full(input: &mut Stdin, buffer: &mut [u8]) -> usize
+    ensures { result ≤ length buffer.old }
+{
     let mut done: usize = 0;
     while done < buffer.len() {
         match input.read(&mut buffer[done..]) {
