@@ -1,11 +1,12 @@
 -- A record looked at where it stands, in the blocks or in a list by itself, keeps its rule exactly if the record taken out does.
 -- Assumes nothing.
+use Rattle.std.specs.Prelude.{Result}
+use Rattle.stored.specs.declared.Refusal.{Refusal}
 use Rattle.std.proofs.Common.{◌≡◌, ℕ, ◌+◌, ◌*◌, ◌/◌, ◌%◌, ◌<◌, ◌≤◌, List, [], ◌∷◌, sym, refl, ap, ◌∙◌, arith, le-ltb}
 use Rattle.scans.specs.Refusals.{Stage, in_order}
 use Rattle.scans.proofs.Exactly.{in_order_same}
 use Rattle.meaning.specs.Stated.{Stated}
 use Rattle.stored.specs.declared.Size.{Size}
-use Rattle.blocks.specs.declared.rules.Rules.{Rules}
 use Rattle.scans.specs.Lists.{list_of}
 use Rattle.stored.specs.Bytes.{byte_at, u16_at}
 use Rattle.stored.specs.Layout.{Records, sizes_of, first_expressions, first_clauses, header_sizes, record_byte, records_of}
@@ -94,7 +95,7 @@ spotted_listed r next =
     ∙ ap (λ st. in_order refused st next) (sym (stages_are r))
 
 -- what reading answers once the rules have been looked at
-pub rules_answer : {res : Rules} (s : List ℕ) (z : Size) (e1 c1 : ℕ) → z ≡ header_sizes s → e1 ≡ first_expressions z → c1 ≡ first_clauses z → Follows z s 1 s e1 s c1 res
+pub rules_answer : {res : Result Unit Refusal} (s : List ℕ) (z : Size) (e1 c1 : ℕ) → z ≡ header_sizes s → e1 ≡ first_expressions z → c1 ≡ first_clauses z → Follows z s 1 s e1 s c1 res
     → followed res (accepted_as z) ≡ in_order refused (record_stages (records_of s)) (accepted_as (header_sizes s))
 rules_answer s z e1 c1 p q r f =
     f.is (accepted_as z)

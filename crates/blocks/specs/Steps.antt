@@ -1,11 +1,11 @@
 -- What the functions of this crate promise: places of records, and the records' rules looked at where they stand.
 -- Assumes nothing.
+use Rattle.std.specs.Prelude.{Result, Ok, Err}
+use Rattle.stored.specs.declared.Refusal.{Refusal}
 use Rattle.std.specs.Prelude.{◌≡◌, ℕ, ◌+◌, ◌*◌, ◌/◌, ◌%◌, ◌<◌, Bool, cond, List, [], ◌∷◌, ◌==◌, nat_lt}
 use Rattle.scans.specs.Refusals.{Stage, in_order}
 use Rattle.meaning.specs.Stated.{Stated}
 use Rattle.stored.specs.declared.Size.{Size}
-use Rattle.blocks.specs.declared.rules.Rules.{Rules}
-use Rattle.blocks.specs.declared.rules.Rules.TheVariants.{Kept, Broken}
 use Rattle.stored.specs.Bytes.{u16_at}
 use Rattle.stored.specs.Layout.{first_expressions, first_clauses, header_sizes}
 use Rattle.stored.specs.Rules.{node_ok, expression_ok, clause_ok}
@@ -36,8 +36,8 @@ record_ok number z s i at =
 abbrev pub record_test : ℕ → Size → List ℕ → ℕ → ℕ → Bool
 record_test number z s first i = record_ok number z s i (spot first i)
 
-abbrev pub broken_in : ℕ → ℕ → ℕ → Rules
-broken_in number first i = Broken (record { number = number; block = first + i / 63; «record» = i % 63 })
+abbrev pub broken_in : ℕ → ℕ → ℕ → Result Unit Refusal
+broken_in number first i = Err (record { number = number; block = first + i / 63; «record» = i % 63 })
 
 -- the three stages of the records' rules, wherever the records stand
 unfoldable pub spotted_stages : Size → List ℕ → ℕ → List ℕ → ℕ → List ℕ → ℕ → List Stage
@@ -48,9 +48,9 @@ spotted_stages z nodes n1 expressions e1 clauses c1 =
     ∷ []
 
 -- what is answered once the rules have been looked at: a refusal, or what comes next
-abbrev pub followed : Rules → Stated → Stated
-followed Kept next = next
-followed (Broken r) next = refused r.number r.block r.«record»
+abbrev pub followed : Result Unit Refusal → Stated → Stated
+followed Ok tt next = next
+followed (Err r) next = refused r.number r.block r.«record»
 
-pub record Follows (z : Size) (nodes : List ℕ) (n1 : ℕ) (expressions : List ℕ) (e1 : ℕ) (clauses : List ℕ) (c1 : ℕ) (r : Rules) : Type 0 where
+pub record Follows (z : Size) (nodes : List ℕ) (n1 : ℕ) (expressions : List ℕ) (e1 : ℕ) (clauses : List ℕ) (c1 : ℕ) (r : Result Unit Refusal) : Type 0 where
   pub is : (next : Stated) → followed r next ≡ in_order refused (spotted_stages z nodes n1 expressions e1 clauses c1) next

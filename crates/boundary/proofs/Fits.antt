@@ -1,14 +1,13 @@
 -- An answer fits ten numbers of four bytes: its word says how many numbers it has, and each is below 2^32.
 -- A table of refusals goes stage by stage; what its last answer has is asked only where every test is passed.
 -- Assumes nothing.
+use Rattle.std.specs.Prelude.{Option, None, Some}
 use mathlib.Core.Path.{◌≡◌, refl}
 use mathlib.Core.Bool.{Bool, true, false}
 use mathlib.Core.List.{List, [], ◌∷◌}
 use Prim.Native.Nat.{ℕ, zero, suc, ◌≤◌, ◌<◌}
 use native.Mathlib.Omega.{arith}
 use lib.ListN.{length, get_or}
-use Rattle.scans.specs.declared.Scan.{Scan}
-use Rattle.scans.specs.declared.Scan.TheVariants.{Clear, Stopped}
 use Rattle.scans.specs.First.{first_bad}
 use Rattle.scans.specs.Refusals.{Stage, whole, unless_at, in_order}
 use Rattle.scans.proofs.Search.{stopped_at}
@@ -64,9 +63,9 @@ module _ (done fails : ℕ) where
   unfolding in_order unless_at
   within_stage st {rest} {last} m places w = record { fits = λ next h. go next h (first_bad st.ok st.count) refl }
     where
-      go : (next : Stated) → (in_order refused (st ∷ rest) last ≡ last → Fits done fails next) → (x : Scan) → first_bad st.ok st.count ≡ x → Fits done fails (in_order refused (st ∷ rest) next)
-      go next h Clear p = rw p (w.fits next (λ e. h (rw p e)))
-      go next h (Stopped i) p = let at = places i (stopped_at st.ok st.count p).below in rw p (refused_fits st.number (st.block i) (st.slot i) m at.0 at.1)
+      go : (next : Stated) → (in_order refused (st ∷ rest) last ≡ last → Fits done fails next) → (x : Option ℕ) → first_bad st.ok st.count ≡ x → Fits done fails (in_order refused (st ∷ rest) next)
+      go next h None p = rw p (w.fits next (λ e. h (rw p e)))
+      go next h (Some i) p = let at = places i (stopped_at st.ok st.count p).below in rw p (refused_fits st.number (st.block i) (st.slot i) m at.0 at.1)
 
   pub within_whole : (number : ℕ) (x : Bool) {rest : List Stage} {last : Stated} → number < 4294967296 → (x ≡ true → Within rest last) → Within (whole number x ∷ rest) last
   unfolding in_order unless_at first_bad

@@ -1,5 +1,8 @@
 -- The laws of telling: with no room nothing changes, and otherwise the ten numbers stand in the first forty bytes.
 -- Assumes nothing.
+use Rattle.std.specs.Prelude.{Result}
+use Rattle.stored.specs.declared.Refusal.{Refusal}
+use Rattle.stored.specs.declared.Size.{Size}
 use mathlib.Core.Path.{◌≡◌, refl, sym, ◌∙◌, ap}
 use mathlib.Core.Bool.{Bool, true, false, not}
 use mathlib.Core.List.{List, ◌++◌}
@@ -9,14 +12,11 @@ use lib.Dec.{leb}
 use lib.ListN.{length, get_or, drop}
 use Rattle.scans.specs.Lists.{list_of}
 use Rattle.meaning.specs.Stated.{Stated}
-use Rattle.stored.specs.declared.Read.{Read}
-use Rattle.stored.specs.declared.Packed.{Packed}
 use Rattle.stored.specs.Bytes.{digit}
 use Rattle.stored.specs.Layout.{Records}
 use Rattle.stored.specs.Reading.{stated_read}
 use Rattle.stored.specs.Packing.{stated_packed}
 use Rattle.stored.specs.Operations.{Unpacks, Packs}
-use Rattle.verdicts.specs.declared.RowAsked.{RowAsked}
 use Rattle.verdicts.specs.Running.{stated_row, GivesRow}
 use Rattle.boundary.specs.Answer.{ten_numbers, bytes_of}
 use Rattle.boundary.specs.Told.{if_room, Told, UnpackTold, PackTold, RowTold}
@@ -67,7 +67,7 @@ module _ {t : Bool} (answer : List ℕ) (e : t ≡ leb 40 (length answer)) where
   pub unpack_untold : (job nodes expressions clauses : List ℕ) → not t ≡ true → UnpackTold job nodes expressions clauses answer nodes expressions clauses answer 0
   unpack_untold job nodes expressions clauses f = record { told = untold answer e f _; nodes_are = stays answer e f _; expressions_are = stays answer e f _; clauses_are = stays answer e f _ }
 
-  pub unpack_told : {job nodes expressions clauses nodes' expressions' clauses' numbers answer' : List ℕ} {a : Read} {r : ℕ} → not t ≡ false
+  pub unpack_told : {job nodes expressions clauses nodes' expressions' clauses' numbers answer' : List ℕ} {a : Result Size Refusal} {r : ℕ} → not t ≡ false
       → Unpacks job nodes expressions clauses nodes' expressions' clauses' a → numbers ≡ ten_numbers (stated_read a) → NumbersTold numbers answer answer' r
       → UnpackTold job nodes expressions clauses answer nodes' expressions' clauses' answer' r
   unpack_told f u n p = record { told = told u.answer n p; nodes_are = comes answer e f _ u.nodes_are; expressions_are = comes answer e f _ u.expressions_are; clauses_are = comes answer e f _ u.clauses_are }
@@ -75,11 +75,11 @@ module _ {t : Bool} (answer : List ℕ) (e : t ≡ leb 40 (length answer)) where
   pub pack_untold : (r : Records) (out : List ℕ) → not t ≡ true → PackTold r out answer out answer 0
   pack_untold r out f = record { told = untold answer e f _; out_is = stays answer e f _ }
 
-  pub pack_told : {s : Records} {out out' numbers answer' : List ℕ} {a : Packed} {r : ℕ} → not t ≡ false → Packs s out out' a → numbers ≡ ten_numbers (stated_packed a) → NumbersTold numbers answer answer' r → PackTold s out answer out' answer' r
+  pub pack_told : {s : Records} {out out' numbers answer' : List ℕ} {a : Result ℕ Refusal} {r : ℕ} → not t ≡ false → Packs s out out' a → numbers ≡ ten_numbers (stated_packed a) → NumbersTold numbers answer answer' r → PackTold s out answer out' answer' r
   pack_told f u n p = record { told = told u.answer n p; out_is = comes answer e f _ u.out_is }
 
   pub row_untold : (job : List ℕ) (x time : ℕ) (out : List ℕ) → not t ≡ true → RowTold job x time out answer out answer 0
   row_untold job x time out f = record { told = untold answer e f _; out_is = stays answer e f _ }
 
-  pub row_told : {job : List ℕ} {x time : ℕ} {out out' numbers answer' : List ℕ} {a : RowAsked} {r : ℕ} → not t ≡ false → GivesRow job x time out out' a → numbers ≡ ten_numbers (stated_row a) → NumbersTold numbers answer answer' r → RowTold job x time out answer out' answer' r
+  pub row_told : {job : List ℕ} {x time : ℕ} {out out' numbers answer' : List ℕ} {a : Result ℕ Refusal} {r : ℕ} → not t ≡ false → GivesRow job x time out out' a → numbers ≡ ten_numbers (stated_row a) → NumbersTold numbers answer answer' r → RowTold job x time out answer out' answer' r
   row_told f u n p = record { told = told u.answer n p; out_is = comes answer e f _ u.out_is }

@@ -1,13 +1,12 @@
 -- From what a search found to the row and the answer of the case.
 -- Assumes nothing.
+use Rattle.std.specs.Prelude.{Option, None, Some}
 use mathlib.Core.Path.{◌≡◌, refl, sym, ◌∙◌, ap}
 use mathlib.Core.Bool.{Bool, true, false}
 use mathlib.Core.List.{List, ◌++◌}
 use Prim.Native.Nat.{ℕ, zero, suc, ◌<◌}
 use native.Mathlib.Omega.{arith}
 use lib.ListN.{get_or}
-use Rattle.scans.specs.declared.Place.{Place}
-use Rattle.scans.specs.declared.Place.TheVariants.{Nowhere, At}
 use Rattle.scans.specs.First.{each, first_place}
 use Rattle.scans.specs.Lists.{list_of}
 use Rattle.scans.proofs.Bools.{both_ways, is_true, of_true, is_false}
@@ -27,10 +26,10 @@ use Rattle.cases.proofs.RowLaws.{list_of_same}
 
 -- whether a search over times and nodes found anything
 module _ (f : ℕ → ℕ → Bool) (times nodes : ℕ) where
-  none_each : first_place f times nodes ≡ Nowhere → each (λ t. each (f t) nodes) times ≡ true
+  none_each : first_place f times nodes ≡ None → each (λ t. each (f t) nodes) times ≡ true
   none_each e = is_true _ (each_i _ times (λ t h. is_true _ (each_i (f t) nodes (λ m l. nowhere_each f times nodes e t m h l))))
 
-  found_each : {t m : ℕ} → first_place f times nodes ≡ At t m → each (λ t. each (f t) nodes) times ≡ false
+  found_each : {t m : ℕ} → first_place f times nodes ≡ Some (t, m) → each (λ t. each (f t) nodes) times ≡ false
   found_each {t} {m} e =
       let r = found_at f times nodes e in
       is_false _ (λ a. both_ways (each_e (f t) nodes (of_true _ (each_e (λ t. each (f t) nodes) times a t r.in_time)) m r.in_row) r.fails)
@@ -48,28 +47,28 @@ module _ (k n : ℕ) (nodes expressions : List ℕ) (c : ℕ) (clauses : List �
   abbrev j : Job
   j = job_from k n nodes expressions c clauses
 
-  module _ (time : ℕ) {y : Place} (e : y ≡ first_place (clear_at j x) (suc time) n) where
-    pub rows_clear : y ≡ Nowhere → true ≡ each (row_clear j x) (suc time)
+  module _ (time : ℕ) {y : Option (ℕ × ℕ)} (e : y ≡ first_place (clear_at j x) (suc time) n) where
+    pub rows_clear : y ≡ None → true ≡ each (row_clear j x) (suc time)
     unfolding row_clear job_from
     rows_clear q = sym (none_each (clear_at j x) (suc time) n (sym e ∙ q))
 
-    pub rows_collide : {t m : ℕ} → y ≡ At t m → false ≡ each (row_clear j x) (suc time)
+    pub rows_collide : {t m : ℕ} → y ≡ Some (t, m) → false ≡ each (row_clear j x) (suc time)
     unfolding row_clear job_from
     rows_collide q = sym (found_each (clear_at j x) (suc time) n (sym e ∙ q))
 
   module _ {last : ℕ} (l : last ≡ last_time j) where
     -- a collision comes first
-    pub empty_is : {y : Place} {t m : ℕ} → y ≡ first_place (clear_at j x) (suc last) n → y ≡ At t m → Empty t m ≡ case_answer j x
+    pub empty_is : {y : Option (ℕ × ℕ)} {t m : ℕ} → y ≡ first_place (clear_at j x) (suc last) n → y ≡ Some (t, m) → Empty t m ≡ case_answer j x
     unfolding case_answer answer_of job_from
     empty_is e q = rw (rw l at (sym e ∙ q))
 
     -- then a miss
-    module _ {y y' : Place} (free : y ≡ first_place (clear_at j x) (suc last) n) (none : y ≡ Nowhere) (miss : y' ≡ first_place (met_here j x) (suc last) n) where
-      pub passes_is : y' ≡ Nowhere → Passes ≡ case_answer j x
+    module _ {y y' : Option (ℕ × ℕ)} (free : y ≡ first_place (clear_at j x) (suc last) n) (none : y ≡ None) (miss : y' ≡ first_place (met_here j x) (suc last) n) where
+      pub passes_is : y' ≡ None → Passes ≡ case_answer j x
       unfolding case_answer answer_of job_from
       passes_is q = rw (rw l at (sym free ∙ none), rw l at (sym miss ∙ q))
 
-      pub fails_is : {t m w f : ℕ} (row marks : List ℕ) → y' ≡ At t m → Tells n j x t m row marks → w ≡ wanted_byte (get_or marks m 0) (get_or row m 0) → f ≡ get_or row m 0 → Fails t m w f ≡ case_answer j x
+      pub fails_is : {t m w f : ℕ} (row marks : List ℕ) → y' ≡ Some (t, m) → Tells n j x t m row marks → w ≡ wanted_byte (get_or marks m 0) (get_or row m 0) → f ≡ get_or row m 0 → Fails t m w f ≡ case_answer j x
       unfolding case_answer answer_of job_from
       fails_is row marks q s a b = rw (rw l at (sym free ∙ none), rw l at (sym miss ∙ q), a ∙ s.wanted, b ∙ s.found)
 

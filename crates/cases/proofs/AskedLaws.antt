@@ -15,7 +15,9 @@ use lib.Seq.{get_or-set_same, get_or-set_other}
 use Rattle.scans.specs.Lists.{list_of}
 use Rattle.meaning.specs.Values.{v_x, Cell, value, join_cells, bit, number, cell_number}
 use Rattle.meaning.specs.Guards.{bit_of, truth}
-use Rattle.meaning.specs.Jobs.{Side, stimulus, expectation, same_side, on, Job, speaks, asks}
+use Rattle.meaning.specs.declared.Side.{Side}
+use Rattle.meaning.specs.declared.Side.TheVariants.{Stimulus, Expectation}
+use Rattle.meaning.specs.Jobs.{same_side, on, Job, speaks, asks}
 use Rattle.meaning.specs.Rows.{asked_by, stimulus_at, forced, cell}
 use Rattle.meaning.proofs.Cells.{cell_of_number, cell_back, join_nothing, join_assoc}
 use Rattle.meaning.proofs.Clauses.{asks_off}
@@ -70,10 +72,10 @@ turned_at takes side words place w list m h = go (active side words place w) (�
     go false d = refl
 
 -- the stimulus taken into a cell's number is the cell joined with it
-joined_in : (j : Job) (x t m : ℕ) (a : Cell) (i : ℕ) → taken_in join_byte j stimulus x t m i (cell_number a) ≡ cell_number (join_cells a (asked_by j x t m i))
+joined_in : (j : Job) (x t m : ℕ) (a : Cell) (i : ℕ) → taken_in join_byte j Stimulus x t m i (cell_number a) ≡ cell_number (join_cells a (asked_by j x t m i))
 unfolding taken_in asked_by join_byte
 joined_in j x t m a zero = ap cell_number (sym (join_nothing a))
-joined_in j x t m a (suc i) = go (asks j stimulus x t m (j.clause i)) (taken_in join_byte j stimulus x t m i (cell_number a)) (joined_in j x t m a i)
+joined_in j x t m a (suc i) = go (asks j Stimulus x t m (j.clause i)) (taken_in join_byte j Stimulus x t m i (cell_number a)) (joined_in j x t m a i)
   where
     go : (b : Bool) (so_far : ℕ) → so_far ≡ cell_number (join_cells a (asked_by j x t m i))
         → cond b (cell_number (join_cells (cell_of_number so_far) (value (bit (j.clause i).value)))) so_far ≡ cell_number (join_cells a (join_cells (asked_by j x t m i) (value (cond b (bit (j.clause i).value) v_x))))
@@ -83,13 +85,13 @@ joined_in j x t m a (suc i) = go (asks j stimulus x t m (j.clause i)) (taken_in 
 -- one of the clauses below i expects v there
 unfoldable pub wished : Job → ℕ → ℕ → ℕ → Bool → ℕ → Bool
 wished j x t m v zero = false
-wished j x t m v (suc i) = wished j x t m v i || (asks j expectation x t m (j.clause i) && beq (j.clause i).value v)
+wished j x t m v (suc i) = wished j x t m v i || (asks j Expectation x t m (j.clause i) && beq (j.clause i).value v)
 
 -- the expectation taken into an empty mark sets the bit of each value that is wished
-marked_in : (j : Job) (x t m : ℕ) (v : Bool) (i : ℕ) → bit_of (taken_in mark_byte j expectation x t m i 0) (number (bit v)) ≡ wished j x t m v i
+marked_in : (j : Job) (x t m : ℕ) (v : Bool) (i : ℕ) → bit_of (taken_in mark_byte j Expectation x t m i 0) (number (bit v)) ≡ wished j x t m v i
 unfolding taken_in wished mark_byte bit_of
 marked_in j x t m v zero = bit_zero (number (bit v))
-marked_in j x t m v (suc i) = go (asks j expectation x t m (j.clause i)) (taken_in mark_byte j expectation x t m i 0) (marked_in j x t m v i)
+marked_in j x t m v (suc i) = go (asks j Expectation x t m (j.clause i)) (taken_in mark_byte j Expectation x t m i 0) (marked_in j x t m v i)
   where
     wish_bit : (w v : Bool) → bit_of (cond w 2 1) (number (bit v)) ≡ beq w v
     wish_bit true true = refl
@@ -136,13 +138,13 @@ module _ (k n : ℕ) (nodes expressions : List ℕ) (c : ℕ) (clauses : List �
         go false o ih = rw (asks_off j side x t m (j.clause i) o) ih
 
     -- a row that shows what is forced at time t, narrowed by its stimulus, shows the row of time t
-    pub narrowed_shows : {row : List ℕ} → Shows n row (forced j x t) → n ≤ length row → Shows n (walked join_byte stimulus words place clauses t c row) (cell j x t)
+    pub narrowed_shows : {row : List ℕ} → Shows n row (forced j x t) → n ≤ length row → Shows n (walked join_byte Stimulus words place clauses t c row) (cell j x t)
     unfolding cell stimulus_at job_from
     narrowed_shows {row} s l =
         record {
           at = λ m h.
-              walked_at join_byte stimulus row m c (omega arith) (omega arith)
-              ∙ ap (taken_in join_byte j stimulus x t m c) (s.at m h)
+              walked_at join_byte Stimulus row m c (omega arith) (omega arith)
+              ∙ ap (taken_in join_byte j Stimulus x t m c) (s.at m h)
               ∙ joined_in j x t m (forced j x t m) c;
         }
 
@@ -154,6 +156,6 @@ module _ (k n : ℕ) (nodes expressions : List ℕ) (c : ℕ) (clauses : List �
         record {
           at = λ m h v.
               ap (λ r. bit_of (get_or r m 0) (number (bit v))) q
-              ∙ ap (λ b. bit_of b (number (bit v))) (walked_at mark_byte expectation cleared m c (omega arith) (omega arith) ∙ ap (taken_in mark_byte j expectation x t m c) (front_at (λ m. 0) n (drop n marks) refl m h))
+              ∙ ap (λ b. bit_of b (number (bit v))) (walked_at mark_byte Expectation cleared m c (omega arith) (omega arith) ∙ ap (taken_in mark_byte j Expectation x t m c) (front_at (λ m. 0) n (drop n marks) refl m h))
               ∙ marked_in j x t m v c;
         }

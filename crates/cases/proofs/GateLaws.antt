@@ -8,7 +8,9 @@ use native.Mathlib.Omega.{arith}
 use lib.Dec.{T, eqb, eqb→eq}
 use lib.ListN.{get_or}
 use Rattle.meaning.specs.Values.{Value, v0, v1, v_x, number}
-use Rattle.meaning.specs.Gates.{Gate, INPUT, ZERO, ONE, BUF, NOT, AND, OR, XOR, MUX, gate_of_code, select_of, mux_of, gate_forces}
+use Rattle.meaning.specs.declared.Gate.{Gate}
+use Rattle.meaning.specs.declared.Gate.TheVariants.{Input, Zero, One, Buf, Not, And, Or, Xor, Mux}
+use Rattle.meaning.specs.Gates.{gate_of_code, select_of, mux_of, gate_forces}
 use Rattle.meaning.proofs.Everywhere.{values, values_e, values2_e}
 use Rattle.words.proofs.Choices.{get_or_first}
 use Rattle.cases.specs.Forced.{value_of, gate_byte}
@@ -81,4 +83,4 @@ gate_is code g p q r e h = rw e h
 -- any other code is read as INPUT's
 pub gate_else : (code p q r : ℕ) → (code < 9 → code ≡ 0) → 2 ≡ gate_byte code p q r
 unfolding gate_forces
-gate_else code p q r h = gate_is code INPUT p q r (get_or_first INPUT (ZERO ∷ ONE ∷ BUF ∷ NOT ∷ AND ∷ OR ∷ XOR ∷ MUX ∷ []) code h) refl
+gate_else code p q r h = gate_is code Input p q r (get_or_first Input (Zero ∷ One ∷ Buf ∷ Not ∷ And ∷ Or ∷ Xor ∷ Mux ∷ []) code h) refl

@@ -9,7 +9,8 @@ use lib.ListN.{get_or}
 use Rattle.scans.specs.First.{first_bad, each}
 use Rattle.scans.proofs.Search.{each_suc, first_bad_same}
 use Rattle.meaning.specs.Values.{Cell, value, collision, has, bit, number, cell_number}
-use Rattle.meaning.specs.Jobs.{expectation, Job, asks}
+use Rattle.meaning.specs.declared.Side.TheVariants.{Expectation}
+use Rattle.meaning.specs.Jobs.{Job, asks}
 use Rattle.meaning.specs.Rows.{cell}
 use Rattle.meaning.specs.Cases.{met_at, wanted_at}
 use Rattle.cases.specs.Shown.{Shows}
@@ -35,7 +36,7 @@ each_both f g (suc n) = each_suc (λ i. f i && g i) n ∙ rw (each_both f g n, e
 
 module _ (j : Job) (x t m : ℕ) (here : Cell) where
   abbrev there : ℕ → Bool
-  there i = asks j expectation x t m (j.clause i)
+  there i = asks j Expectation x t m (j.clause i)
 
   -- the cell differs from v
   abbrev differs : Bool → Bool

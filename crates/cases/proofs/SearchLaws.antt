@@ -1,5 +1,6 @@
 -- A search over times and nodes, row after row: where it has come to, and what it finds.
 -- Assumes nothing.
+use Rattle.std.specs.Prelude.{None, Some}
 use mathlib.Core.Path.{◌≡◌, sym, subst}
 use mathlib.Core.Bool.{Bool, true}
 use mathlib.Core.List.{List}
@@ -8,8 +9,6 @@ use native.Mathlib.Numerals.{add-one}
 use native.Mathlib.Omega.{arith}
 use borrow.Author.Count.{below_more}
 use lib.ListN.{length, get_or, drop}
-use Rattle.scans.specs.declared.Scan.TheVariants.{Clear, Stopped}
-use Rattle.scans.specs.declared.Place.TheVariants.{Nowhere, At}
 use Rattle.scans.specs.First.{first_bad, first_place}
 use Rattle.scans.proofs.Search.{clear_each, stopped_at}
 use Rattle.scans.proofs.Places.{nowhere_each, each_nowhere, at_found}
@@ -27,7 +26,7 @@ use Rattle.cases.proofs.RowLaws.{Before, front_long, forced_shows, free_plain}
 use Rattle.cases.proofs.AskedLaws.{narrowed_shows, Wishes}
 use Rattle.cases.proofs.MissLaws.{wanted_shown}
 
-pub at_nowhere : {P : Type 0} {t n : ℕ} → At t n ≡ Nowhere → P
+pub at_nowhere : {P : Type 0} {t n : ℕ} → Some (t, n) ≡ None → P
 at_nowhere e = let z : ◌≡◌ {A = ℕ} 0 1 = cc in absurd (omega arith)
 
 -- every node below n passes f at every time below t
@@ -87,17 +86,17 @@ reached_first f n j x row = record { before = tt; clean = clean_none f n }
 
 module _ {f : ℕ → ℕ → Bool} {n : ℕ} {j : Job} {x t : ℕ} {row : List ℕ} (r : Reached f n j x t row) where
   -- it goes on where every node of the time passes
-  pub reached_next : {new : List ℕ} → Shows n new (cell j x t) → Clear ≡ first_bad (f t) n → Reached f n j x (t + 1) new
+  pub reached_next : {new : List ℕ} → Shows n new (cell j x t) → None ≡ first_bad (f t) n → Reached f n j x (t + 1) new
   reached_next s e = record { before = rw (add-one t) s; clean = clean_more f n t r.clean (clear_each (f t) n (sym e)) }
 
   -- it stops at the first that does not
-  pub reached_found : {last m : ℕ} → t ≤ last → Stopped m ≡ first_bad (f t) n → At t m ≡ first_place f (suc last) n
+  pub reached_found : {last m : ℕ} → t ≤ last → Some m ≡ first_bad (f t) n → Some (t, m) ≡ first_place f (suc last) n
   reached_found {last} l e =
       let s = stopped_at (f t) n (sym e) in
       sym (at_found f (suc last) n (record { in_time = omega arith; in_row = s.below; fails = s.fails; earlier = r.clean; lower = s.before }))
 
   -- and it ends past the last time
-  pub reached_end : {last : ℕ} → last < t → Nowhere ≡ first_place f (suc last) n
+  pub reached_end : {last : ℕ} → last < t → None ≡ first_place f (suc last) n
   reached_end {last} h = sym (each_nowhere f (suc last) n (λ u m g. r.clean u m (omega arith)))
 
   pub reached_last : {last : ℕ} → t ≤ last + 1 → last < t → Shows n row (cell j x last)
@@ -111,11 +110,11 @@ module _ {f : ℕ → ℕ → Bool} {n : ℕ} {j : Job} {x t : ℕ} {row : List 
       go zero b c h = absurd (omega arith)
       go (suc t) b c h = free_plain b (λ m l. c t m (omega arith) l)
 
-  pub reached_free : {last : ℕ} → first_place (clear_at j x) (suc last) n ≡ Nowhere → t ≤ last → 0 < t → Plain n row
+  pub reached_free : {last : ℕ} → first_place (clear_at j x) (suc last) n ≡ None → t ≤ last → 0 < t → Plain n row
   reached_free {last} e l = reached_plain (λ u m h. nowhere_each (clear_at j x) (suc last) n e u m (omega arith))
 
 -- what the row and the marks of a time say at the place that was found
-pub tells : {n : ℕ} {j : Job} {x t m t' m' : ℕ} {row marks : List ℕ} → Shows n row (cell j x t) → Wishes n j x t marks → m < n → At t m ≡ At t' m' → Tells n j x t' m' row marks
+pub tells : {n : ℕ} {j : Job} {x t m t' m' : ℕ} {row marks : List ℕ} → Shows n row (cell j x t) → Wishes n j x t marks → m < n → Some (t, m) ≡ Some (t', m') → Tells n j x t' m' row marks
 tells {n} {j} {x} {t} {m} {t'} {m'} {row} {marks} s u h e =
     let p : t ≡ t' = cc in
     let q : m ≡ m' = cc in

@@ -12,7 +12,10 @@ use lib.ListN.{length, get_or, drop, set}
 use Rattle.scans.specs.Lists.{list_of}
 use Rattle.meaning.specs.Values.{value, join, join_cells, bit, number, cell_number}
 use Rattle.meaning.specs.Guards.{bit_of}
-use Rattle.meaning.specs.Jobs.{Side, stimulus, expectation, Clause, on}
+use Rattle.meaning.specs.declared.Side.{Side}
+use Rattle.meaning.specs.declared.Clause.{Clause}
+use Rattle.meaning.specs.declared.Side.TheVariants.{Stimulus, Expectation}
+use Rattle.meaning.specs.Jobs.{on}
 use Rattle.meaning.proofs.Cells.{cell_of_number}
 use Rattle.decoded.specs.Fields.{byte0, byte1, half1, half3, clause_of}
 use Rattle.decoded.specs.Chains.{next_from}
@@ -54,25 +57,25 @@ module _ (b : ℕ) {v : ℕ} (one : Bool) (e : v ≡ number (bit one)) where
       go (suc (suc (suc b))) one f g = refl
 
 -- whether a clause is active: side 1 is expectation, any other stimulus
-side_of : (b : ℕ) → (b ≡ 1 → ⊥) → get_or (stimulus ∷ expectation ∷ []) b stimulus ≡ stimulus
+side_of : (b : ℕ) → (b ≡ 1 → ⊥) → get_or (Stimulus ∷ Expectation ∷ []) b Stimulus ≡ Stimulus
 side_of zero h = refl
 side_of (suc zero) h = absurd (h refl)
 side_of (suc (suc b)) h = refl
 
 module _ (words : List ℕ) (place w : ℕ) {b : ℕ} (e : b ≡ byte0 w) where
-  pub not_stimulus : b ≡ 1 → active stimulus words place w ≡ false
+  pub not_stimulus : b ≡ 1 → active Stimulus words place w ≡ false
   unfolding active clause_of
   not_stimulus h = rw (sym e ∙ h)
 
-  pub not_expectation : (b ≡ 1 → ⊥) → active expectation words place w ≡ false
+  pub not_expectation : (b ≡ 1 → ⊥) → active Expectation words place w ≡ false
   unfolding active clause_of
   not_expectation h = rw (side_of (byte0 w) (λ q. h (e ∙ q)))
 
-  pub is_stimulus : (b ≡ 1 → ⊥) → {g : Bool} → g ≡ bit_of (get_or words (half3 w) 0) place → active stimulus words place w ≡ g
+  pub is_stimulus : (b ≡ 1 → ⊥) → {g : Bool} → g ≡ bit_of (get_or words (half3 w) 0) place → active Stimulus words place w ≡ g
   unfolding active clause_of
   is_stimulus h q = rw (side_of (byte0 w) (λ q. h (e ∙ q)), q)
 
-  pub is_expectation : b ≡ 1 → {g : Bool} → g ≡ bit_of (get_or words (half3 w) 0) place → active expectation words place w ≡ g
+  pub is_expectation : b ≡ 1 → {g : Bool} → g ≡ bit_of (get_or words (half3 w) 0) place → active Expectation words place w ≡ g
   unfolding active clause_of
   is_expectation h q = rw (sym e ∙ h, q)
 
@@ -150,11 +153,11 @@ module _ (takes : ℕ → Bool → ℕ) (side : Side) (words : List ℕ) (place 
 
 -- the bytes of a time, made in two steps
 pub row_made : (n : ℕ) (nodes : List ℕ) (c : ℕ) (clauses words : List ℕ) (place t : ℕ) (row : List ℕ) {made new : List ℕ} → made ≡ list_of (forced_byte nodes row t) n ++ drop n row
-    → new ≡ walked join_byte stimulus words place clauses t c made → new ≡ row_bytes n nodes c clauses words place t row
+    → new ≡ walked join_byte Stimulus words place clauses t c made → new ≡ row_bytes n nodes c clauses words place t row
 unfolding row_bytes
-row_made n nodes c clauses words place t row p q = q ∙ ap (walked join_byte stimulus words place clauses t c) p
+row_made n nodes c clauses words place t row p q = q ∙ ap (walked join_byte Stimulus words place clauses t c) p
 
 pub marks_made : (n c : ℕ) (clauses words : List ℕ) (place t : ℕ) (marks : List ℕ) {cleared new : List ℕ} → cleared ≡ list_of (λ m. 0) n ++ drop n marks
-    → new ≡ walked mark_byte expectation words place clauses t c cleared → new ≡ mark_bytes n c clauses words place t marks
+    → new ≡ walked mark_byte Expectation words place clauses t c cleared → new ≡ mark_bytes n c clauses words place t marks
 unfolding mark_bytes
-marks_made n c clauses words place t marks p q = q ∙ ap (walked mark_byte expectation words place clauses t c) p
+marks_made n c clauses words place t marks p q = q ∙ ap (walked mark_byte Expectation words place clauses t c) p

@@ -4,7 +4,7 @@ use Rattle.std.specs.Prelude.{Bool, not, ◌&&◌, cond, List, ◌++◌, ℕ, eq
 use Rattle.std.specs.Int.Bits.{bit_or}
 use Rattle.scans.specs.Lists.{list_of}
 use Rattle.meaning.specs.Guards.{bit_of}
-use Rattle.meaning.specs.Jobs.{expectation}
+use Rattle.meaning.specs.declared.Side.TheVariants.{Expectation}
 use Rattle.cases.specs.Walked.{walked}
 
 -- a mark with a wish more: bit 0 that 0 is wanted, bit 1 that 1 is
@@ -13,7 +13,7 @@ mark_byte b v = bit_or b (cond v 2 1)
 
 -- no mark, and then those of the expectation of time t
 unfoldable pub mark_bytes : ℕ → ℕ → List ℕ → List ℕ → ℕ → ℕ → List ℕ → List ℕ
-mark_bytes n c clauses words place t marks = walked mark_byte expectation words place clauses t c (list_of (λ m. 0) n ++ drop n marks)
+mark_bytes n c clauses words place t marks = walked mark_byte Expectation words place clauses t c (list_of (λ m. 0) n ++ drop n marks)
 
 -- a marked wish for v is missed where this byte stands
 unfoldable pub missed_byte : ℕ → ℕ → ℕ → Bool

@@ -2,7 +2,8 @@
 -- Assumes nothing.
 use Rattle.std.specs.Prelude.{Bool, ◌&&◌, cond, List, ℕ, zero, suc, ◌≤◌, ◌<◌, length, get_or, set}
 use Rattle.meaning.specs.Guards.{bit_of}
-use Rattle.meaning.specs.Jobs.{Side, same_side, on}
+use Rattle.meaning.specs.declared.Side.{Side}
+use Rattle.meaning.specs.Jobs.{same_side, on}
 use Rattle.decoded.specs.Fields.{half1, half3, clause_of}
 use Rattle.decoded.specs.Chains.{Chained}
 

@@ -1,7 +1,7 @@
 // The clauses of a time, in one case: the stimulus narrows a row, the expectation marks what is wanted.
 ghost use Rattle.std.specs.Prelude.{◌≡◌, ◌<◌, ◌≤◌, length, get_or};
 ghost use Rattle.meaning.specs.Guards.{bit_of};
-ghost use Rattle.meaning.specs.Jobs.{stimulus, expectation};
+ghost use Rattle.meaning.specs.declared.Side.TheVariants.{Stimulus, Expectation};
 ghost use Rattle.decoded.specs.Fields.{half1, half3};
 ghost use Rattle.cases.specs.Walked.{turned, walked, Walkable};
 ghost use Rattle.cases.specs.Shown.{join_byte};
@@ -38,7 +38,7 @@ fn narrow(b: u8, one: bool) -> u8
 
 fn narrow_by(clause: u64, words: &[u64], place: usize, row: &mut [u8])
     requires { (half1 clause < length row.old) × ((half3 clause < length words.now) × (place < 64)) }
-    ensures { row.new ≡ turned join_byte stimulus words.now place clause row.old }
+    ensures { row.new ≡ turned join_byte Stimulus words.now place clause row.old }
 {
     if first_byte(clause) == 1 {
         return;
@@ -61,7 +61,7 @@ pub fn stimulate(
     row: &mut [u8],
 )
     requires { Walkable clauses.now c heads.now nexts.now words.now place t (length row.old) }
-    ensures { row.new ≡ walked join_byte stimulus words.now place clauses.now t c row.old }
+    ensures { row.new ≡ walked join_byte Stimulus words.now place clauses.now t c row.old }
 {
     let mut i = entry(heads, t);
     while i < c {
@@ -79,7 +79,7 @@ fn marked(mark: u8, one: bool) -> u8
 
 fn mark_by(clause: u64, words: &[u64], place: usize, marks: &mut [u8])
     requires { (half1 clause < length marks.old) × ((half3 clause < length words.now) × (place < 64)) }
-    ensures { marks.new ≡ turned mark_byte expectation words.now place clause marks.old }
+    ensures { marks.new ≡ turned mark_byte Expectation words.now place clause marks.old }
 {
     if first_byte(clause) != 1 {
         return;

@@ -10,7 +10,8 @@ use borrow.Author.Fill.{fill_more}
 use borrow.Author.Tests.{eq-eqb, ne_eqb}
 use lib.ListN.{length, get_or, drop, set, drop_of_length-le, length-set, replicate, length-replicate, get_or-replicate}
 use lib.Seq.{get_or-set_same, get_or-set_other}
-use Rattle.meaning.specs.Jobs.{Clause, on, until, latest}
+use Rattle.meaning.specs.declared.Clause.{Clause}
+use Rattle.meaning.specs.Jobs.{on, until, latest}
 use Rattle.decoded.specs.Chains.{next_of, next_from, Chained}
 
 -- a loop that clears the heads

@@ -1,7 +1,8 @@
 -- Clauses chained by their time: from a time to its first clause, and from a clause to the next of the same time.
 -- Assumes nothing.
 use Rattle.std.specs.Prelude.{◌≡◌, cond, List, ℕ, zero, suc, ◌-◌, ◌≤◌, ◌<◌, length, get_or}
-use Rattle.meaning.specs.Jobs.{Clause, on}
+use Rattle.meaning.specs.declared.Clause.{Clause}
+use Rattle.meaning.specs.Jobs.{on}
 
 -- of the last d of c clauses, the first one of time t; c if there is none
 unfoldable pub next_of : (ℕ → Clause) → ℕ → ℕ → ℕ → ℕ

@@ -2,8 +2,12 @@
 -- Assumes nothing.
 use Rattle.std.specs.Prelude.{◌≡◌, List, [], ◌∷◌, ℕ, ◌+◌, ◌*◌, ◌/◌, ◌%◌, ◌≤◌, ◌<◌, eqb, length, get_or}
 use Rattle.meaning.specs.Gates.{gate_of_code}
-use Rattle.meaning.specs.Guards.{Expression, FALSE, TRUE, VARIABLE, NOT, AND, OR, XOR}
-use Rattle.meaning.specs.Jobs.{Node, stimulus, expectation, Clause, Job}
+use Rattle.meaning.specs.declared.Expression.{Expression}
+use Rattle.meaning.specs.declared.Expression.TheVariants.{False, True, Variable, Not, And, Or, Xor}
+use Rattle.meaning.specs.declared.Node.{Node}
+use Rattle.meaning.specs.declared.Clause.{Clause}
+use Rattle.meaning.specs.declared.Side.TheVariants.{Stimulus, Expectation}
+use Rattle.meaning.specs.Jobs.{Job}
 use Rattle.stored.specs.Bytes.{u16_at}
 
 -- record i of a list of records
@@ -30,10 +34,10 @@ unfoldable pub node_of : ℕ → Node
 node_of w = record { gate = gate_of_code (byte0 w); p = half1 w; q = half2 w; r = half3 w }
 
 unfoldable pub expression_of : ℕ → Expression
-expression_of w = let a = half1 w in let b = half2 w in get_or (FALSE ∷ TRUE ∷ VARIABLE a ∷ NOT a ∷ AND a b ∷ OR a b ∷ XOR a b ∷ []) (byte0 w) FALSE
+expression_of w = let a = half1 w in let b = half2 w in get_or (False ∷ True ∷ Variable a ∷ Not a ∷ And a b ∷ Or a b ∷ Xor a b ∷ []) (byte0 w) False
 
 unfoldable pub clause_of : ℕ → Clause
-clause_of w = record { side = get_or (stimulus ∷ expectation ∷ []) (byte0 w) stimulus; value = eqb (byte1 w) 1; node = half1 w; time = half2 w; guard = half3 w }
+clause_of w = record { side = get_or (Stimulus ∷ Expectation ∷ []) (byte0 w) Stimulus; value = eqb (byte1 w) 1; node = half1 w; time = half2 w; guard = half3 w }
 
 -- the job of k variables, n nodes and c clauses in these lists
 unfoldable pub job_from : ℕ → ℕ → List ℕ → List ℕ → ℕ → List ℕ → Job

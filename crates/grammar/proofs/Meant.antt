@@ -10,7 +10,9 @@ use Prim.Native.Nat.{ℕ, zero, suc, ◌+◌, ◌*◌, ◌-◌, ◌<◌}
 use lib.Dec.{eqb}
 use lib.ListN.{length, get_or, length-append, get_or-append}
 use lib.Seq.{get_or_at}
-use Rattle.meaning.specs.Guards.{bit_of, Expression, FALSE, TRUE, VARIABLE, NOT, AND, OR, XOR, truth_given, truths, truth}
+use Rattle.meaning.specs.declared.Expression.{Expression}
+use Rattle.meaning.specs.declared.Expression.TheVariants.{False, True, Variable, Not, And, Or, Xor}
+use Rattle.meaning.specs.Guards.{bit_of, truth_given, truths, truth}
 use Rattle.stored.specs.Decoding.{expression_at, clause_at}
 use Rattle.grammar.specs.Items.{Operator, AND as BOTH, XOR as DIFFERING, OR as EITHER}
 use Rattle.grammar.specs.Guards.{Guard, letter, constant, complement, bracketed, joined, size}
@@ -51,7 +53,7 @@ module _ (es : ℕ → Expression) (x : ℕ) where
 abbrev pub expressions_of : List ℕ → ℕ → Expression
 expressions_of s i = expression_at s (8 * i)
 
-decoded : {s : List ℕ} {i op a b : ℕ} → ExpressionIs s i op a b → expressions_of s i ≡ get_or (FALSE ∷ TRUE ∷ VARIABLE a ∷ NOT a ∷ AND a b ∷ OR a b ∷ XOR a b ∷ []) op FALSE
+decoded : {s : List ℕ} {i op a b : ℕ} → ExpressionIs s i op a b → expressions_of s i ≡ get_or (False ∷ True ∷ Variable a ∷ Not a ∷ And a b ∷ Or a b ∷ Xor a b ∷ []) op False
 unfolding expression_at
 decoded r = rw (r.op_is, r.first, r.second)
 

@@ -13,7 +13,9 @@ use Rattle.scans.proofs.Bools.{both_ways, is_true, of_true, same_test, and_left}
 use Rattle.scans.proofs.Search.{each_e, each_i}
 use Rattle.meaning.specs.Values.{Value, value, has, bit}
 use Rattle.meaning.specs.Guards.{bit_of, truth}
-use Rattle.meaning.specs.Jobs.{expectation, stimulus, same_side, on, Clause, Job, speaks, asks}
+use Rattle.meaning.specs.declared.Clause.{Clause}
+use Rattle.meaning.specs.declared.Side.TheVariants.{Expectation, Stimulus}
+use Rattle.meaning.specs.Jobs.{same_side, on, Job, speaks, asks}
 use Rattle.meaning.specs.Cases.{missed, met_at}
 use Rattle.meaning.proofs.Clauses.{asks_node}
 use Rattle.words.specs.declared.Pair.{Pair}
@@ -26,11 +28,11 @@ use Rattle.groups.specs.Held.{pair_at, Held, Expects, MissedWhere}
 use Rattle.groups.proofs.Walks.{missed_at, missed_by, missed_none, missed_more, missed_jump}
 
 -- a stimulus is not missed
-pub missed_not : (w n : ℕ) (guards zeros ones : List ℕ) → (clause_of w).side ≡ stimulus → MissedWhere w n guards zeros ones 0
+pub missed_not : (w n : ℕ) (guards zeros ones : List ℕ) → (clause_of w).side ≡ Stimulus → MissedWhere w n guards zeros ones 0
 missed_not w n guards zeros ones e = record { at = λ i l v h. bit_zero i ∙ rw e }
 
 -- an expectation, as the code has it with what its calls gave
-pub missed_found : (w n : ℕ) (guards zeros ones : List ℕ) {at g b r : ℕ} {old : Pair} → (clause_of w).side ≡ expectation → half1 w < n → at ≡ half1 w → g ≡ half3 w → b ≡ byte1 w → old ≡ pair_at zeros ones at
+pub missed_found : (w n : ℕ) (guards zeros ones : List ℕ) {at g b r : ℕ} {old : Pair} → (clause_of w).side ≡ Expectation → half1 w < n → at ≡ half1 w → g ≡ half3 w → b ≡ byte1 w → old ≡ pair_at zeros ones at
     → Differs old (eqb b 1) r → MissedWhere w n guards zeros ones (bit_and r (get_or guards g 0))
 unfolding clause_of
 missed_found w n guards zeros ones {at} {g} {b} {r} {old} side node ea eg eb eo d =
@@ -49,9 +51,9 @@ missed_found w n guards zeros ones {at} {g} {b} {r} {old} side node ea eg eb eo 
 
 -- where a clause is of the time, whether it is missed goes by its guard
 missed_with : (j : Job) (x t : ℕ) (v : ℕ → Value) (c : Clause) {b : Bool} → b ≡ truth j.expressions x c.guard → on c t ≡ true
-    → (same_side c.side expectation && b && not (has (value (v c.node)) (bit c.value))) ≡ missed j x t c.node (value (v c.node)) c
+    → (same_side c.side Expectation && b && not (has (value (v c.node)) (bit c.value))) ≡ missed j x t c.node (value (v c.node)) c
 unfolding asks speaks
-missed_with j x t v c {b} e h = rw (h, ← e, eq-eqb c.node c.node refl) (go (same_side c.side expectation) b (not (has (value (v c.node)) (bit c.value))))
+missed_with j x t v c {b} e h = rw (h, ← e, eq-eqb c.node c.node refl) (go (same_side c.side Expectation) b (not (has (value (v c.node)) (bit c.value))))
   where
     go : (s b h : Bool) → (s && b && h) ≡ ((s && (b && true)) && h)
     go true true h = refl
@@ -92,7 +94,7 @@ module _ (j : Job) (n e t : ℕ) (guards zeros ones : List ℕ) where
           none : (m i : ℕ) → i < j.count → (b : Bool) → missed j x t m (value (v m)) (j.clause i) ≡ b → not b ≡ true
           none m i l false q = refl
           none m i l true q =
-              let asked : T (asks j expectation x t m (j.clause i)) = and_left (asks j expectation x t m (j.clause i)) (not (has (value (v m)) (bit (j.clause i).value))) (of_true _ q) in
+              let asked : T (asks j Expectation x t m (j.clause i)) = and_left (asks j Expectation x t m (j.clause i)) (not (has (value (v m)) (bit (j.clause i).value))) (of_true _ q) in
               let there : (j.clause i).node ≡ m = asks_node j {x = x} (record { below = l; there = asked }) in
               both_ways (subst (λ d. missed j x t d (value (v d)) (j.clause i) ≡ true) (sym there) q) (not-true _ (each_e _ j.count all i l))
 

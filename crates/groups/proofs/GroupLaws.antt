@@ -1,5 +1,6 @@
 -- From the bits of all times to the answers for the cases.
 -- Assumes nothing.
+use Rattle.std.specs.Prelude.{Option, None, Some}
 use mathlib.Core.Path.{◌≡◌, refl, sym, ◌∙◌, ap, subst}
 use mathlib.Core.Bool.{Bool, true, false, not, ◌&&◌, and-true, and-false}
 use mathlib.Core.List.{List}
@@ -9,15 +10,14 @@ use native.Mathlib.Omega.{arith}
 use lib.Bits.{bit_and}
 use lib.Dec.{T}
 use lib.ListN.{get_or, replicate, get_or-replicate}
-use Rattle.scans.specs.declared.Place.{Place}
-use Rattle.scans.specs.declared.Place.TheVariants.{Nowhere, At}
 use Rattle.scans.specs.First.{each, first_place}
 use Rattle.scans.proofs.Bools.{is_true, of_true, is_false, same_test, both_ways}
 use Rattle.scans.proofs.Search.{each_e, each_i}
 use Rattle.scans.proofs.Places.{nowhere_each, found_at}
 use Rattle.meaning.specs.Values.{collides}
 use Rattle.meaning.specs.Guards.{bit_of}
-use Rattle.meaning.specs.Jobs.{expectation, until, Job, asks, latest, last_time, WellFormed}
+use Rattle.meaning.specs.declared.Side.TheVariants.{Expectation}
+use Rattle.meaning.specs.Jobs.{until, Job, asks, latest, last_time, WellFormed}
 use Rattle.meaning.specs.Rows.{cell, row_clear}
 use Rattle.meaning.specs.Cases.{met_at, answer_at, first_collision, first_miss, answer_of, case_answer, is_empty, is_fails}
 use Rattle.meaning.specs.Answers.{empty, failing}
@@ -48,17 +48,17 @@ module _ {k n e c : ℕ} {nodes expressions clauses : List ℕ} (d : Decoded k n
 pub unknown_all : (n room : ℕ) → n ≤ room → Unknown n (replicate room (2 ^ 64 - 1))
 unknown_all n room h = record { at = λ m l. get_or-replicate room m (2 ^ 64 - 1) 0 (omega arith) }
 
-abbrev is_nowhere : Place → Bool
-is_nowhere Nowhere = true
-is_nowhere (At t n) = false
+abbrev is_nowhere : Option (ℕ × ℕ) → Bool
+is_nowhere None = true
+is_nowhere (Some (t, n)) = false
 
 -- nothing fails anywhere exactly when every row is clean
 nowhere_test : (f : ℕ → ℕ → Bool) (times nodes : ℕ) → is_nowhere (first_place f times nodes) ≡ each (λ t. each (f t) nodes) times
 nowhere_test f times nodes = go (first_place f times nodes) refl
   where
-    go : (p : Place) → first_place f times nodes ≡ p → is_nowhere p ≡ each (λ t. each (f t) nodes) times
-    go Nowhere e = sym (is_true _ (each_i _ times (λ t h. is_true _ (each_i (f t) nodes (λ n. nowhere_each f times nodes e t n h)))))
-    go (At t n) e =
+    go : (p : Option (ℕ × ℕ)) → first_place f times nodes ≡ p → is_nowhere p ≡ each (λ t. each (f t) nodes) times
+    go None e = sym (is_true _ (each_i _ times (λ t h. is_true _ (each_i (f t) nodes (λ n. nowhere_each f times nodes e t n h)))))
+    go (Some (t, n)) e =
         let r = found_at f times nodes e in
         sym (is_false _ (λ all. both_ways (each_e (f t) nodes (of_true _ (each_e _ times all t r.in_time)) n r.in_row) r.fails))
 
@@ -68,19 +68,19 @@ module _ (j : Job) (w : WellFormed j) (x : ℕ) where
   unfolding case_answer answer_of row_clear
   empty_test = go (first_collision j (cell j x)) (first_miss j x (cell j x)) ∙ ap not (nowhere_test _ _ _)
     where
-      go : (p q : Place) → is_empty (answer_at j x (cell j x) p q) ≡ not (is_nowhere p)
-      go Nowhere Nowhere = refl
-      go Nowhere (At t n) = refl
-      go (At t n) q = refl
+      go : (p q : Option (ℕ × ℕ)) → is_empty (answer_at j x (cell j x) p q) ≡ not (is_nowhere p)
+      go None None = refl
+      go None (Some (t, n)) = refl
+      go (Some (t, n)) q = refl
 
   fails_test : failing j x ≡ each (row_clear j x) (suc (last_time j)) && not (each (row_met j x) (suc (last_time j)))
   unfolding case_answer answer_of row_clear
   fails_test = go (first_collision j (cell j x)) (first_miss j x (cell j x)) ∙ rw (nowhere_test (λ t n. not (collides (cell j x t n))) (suc (last_time j)) j.netlist.size, nowhere_test (λ t n. met_at j x t n (cell j x t n)) (suc (last_time j)) j.netlist.size)
     where
-      go : (p q : Place) → is_fails (answer_at j x (cell j x) p q) ≡ is_nowhere p && not (is_nowhere q)
-      go Nowhere Nowhere = refl
-      go Nowhere (At t n) = refl
-      go (At t n) q = refl
+      go : (p q : Option (ℕ × ℕ)) → is_fails (answer_at j x (cell j x) p q) ≡ is_nowhere p && not (is_nowhere q)
+      go None None = refl
+      go None (Some (t, n)) = refl
+      go (Some (t, n)) q = refl
 
   -- past the last time nothing collides that had not, and nothing is expected
   clear_past : (end : ℕ) → last_time j < end → each (row_clear j x) end ≡ each (row_clear j x) (suc (last_time j))
@@ -98,13 +98,13 @@ module _ (j : Job) (w : WellFormed j) (x : ℕ) where
       (λ all. each_i _ (suc (last_time j)) (λ t l. each_e _ end all t (omega arith)))
       (λ all. each_i _ end (λ t l. go all t (dec_lt (last_time j) t)))
     where
-      quiet : (t n i : ℕ) → last_time j < t → i < j.count → (b r : Bool) → asks j expectation x t n (j.clause i) ≡ b → not (b && r) ≡ true
-      quiet t n i l k true r e = absurd (omega (arith, place_time j {side = expectation} {x = x} {t = t} {n = n} {i = i} (record { below = k; there = of_true _ e })))
+      quiet : (t n i : ℕ) → last_time j < t → i < j.count → (b r : Bool) → asks j Expectation x t n (j.clause i) ≡ b → not (b && r) ≡ true
+      quiet t n i l k true r e = absurd (omega (arith, place_time j {side = Expectation} {x = x} {t = t} {n = n} {i = i} (record { below = k; there = of_true _ e })))
       quiet t n i l k false r e = refl
 
       go : T (each (row_met j x) (suc (last_time j))) → (t : ℕ) → Dec (last_time j < t) → row_met j x t ≡ true
       go all t (no l) = each_e _ (suc (last_time j)) all t (omega arith)
-      go all t (yes l) = is_true _ (each_i _ j.netlist.size (λ n k. is_true _ (each_i _ j.count (λ i d. quiet t n i l d (asks j expectation x t n (j.clause i)) _ refl))))
+      go all t (yes l) = is_true _ (each_i _ j.netlist.size (λ n k. is_true _ (each_i _ j.count (λ i d. quiet t n i l d (asks j Expectation x t n (j.clause i)) _ refl))))
 
 -- a case fails where it has missed an expectation and has not collided
 fails_bits : (clear met : Bool) {c m : Bool} → c ≡ not clear → (clear ≡ true → m ≡ not met) → m && not c ≡ clear && not met

@@ -10,7 +10,8 @@ use lib.ListN.{length, get_or, set}
 use Rattle.scans.proofs.Bools.{both_ways}
 use Rattle.meaning.specs.Values.{v_x, value}
 use Rattle.meaning.specs.Gates.{arity, gate_of_code}
-use Rattle.meaning.specs.Jobs.{Clause, on}
+use Rattle.meaning.specs.declared.Clause.{Clause}
+use Rattle.meaning.specs.Jobs.{on}
 use Rattle.meaning.proofs.Cells.{gate_lacks}
 use Rattle.words.specs.declared.Pair.{Pair}
 use Rattle.words.specs.Places.{cell_at, Forces}

@@ -15,7 +15,9 @@ use Rattle.scans.proofs.Bools.{is_true, of_true, same_test, and_left, and_right,
 use Rattle.scans.proofs.Search.{each_e, each_i}
 use Rattle.meaning.specs.Values.{Value, v_x, Cell, value, collision, join_cells, collides}
 use Rattle.meaning.specs.Guards.{bit_of, truth}
-use Rattle.meaning.specs.Jobs.{stimulus, same_side, on, Clause, Job, speaks, asks}
+use Rattle.meaning.specs.declared.Clause.{Clause}
+use Rattle.meaning.specs.declared.Side.TheVariants.{Stimulus}
+use Rattle.meaning.specs.Jobs.{same_side, on, Job, speaks, asks}
 use Rattle.meaning.specs.Rows.{asked, asked_by}
 use Rattle.meaning.proofs.Cells.{join_nothing, join_assoc}
 use Rattle.words.proofs.Bits.{bit_zero, bit_or_lem}
@@ -110,8 +112,8 @@ module _ (j : Job) (n e t : ℕ) (guards zeros ones : List ℕ) where
         collided p x l v g h =
             bit_or_lem d r p
             ∙ ap (λ y. y || bit_of r p) (s.collided p x l v g h)
-            ∙ ap (λ y. not (each before n) || y) (b.collided p l ∙ ap (λ c. same_side (clause_of w).side stimulus && collides c) ((joined p x l (λ m. value (v m)) g h).at (half1 w) node))
-            ∙ told (same_side (clause_of w).side stimulus) (collides (join_cells (value (v (half1 w))) (asked_by j x t (half1 w) (suc i)))) (each before n) quiet
+            ∙ ap (λ y. not (each before n) || y) (b.collided p l ∙ ap (λ c. same_side (clause_of w).side Stimulus && collides c) ((joined p x l (λ m. value (v m)) g h).at (half1 w) node))
+            ∙ told (same_side (clause_of w).side Stimulus) (collides (join_cells (value (v (half1 w))) (asked_by j x t (half1 w) (suc i)))) (each before n) quiet
             ∙ ap not (sym (each_change before after (half1 w) n node (λ m q. ap (λ c. not (collides c)) (cell_stays p x m (value (v m)) g (away m q))) (λ u. still _ _ (subst (λ c. T (not (collides c))) (sym (cell_more p x (half1 w) (value (v (half1 w))) g)) u))))
           where
             before : ℕ → Bool
@@ -121,9 +123,9 @@ module _ (j : Job) (n e t : ℕ) (guards zeros ones : List ℕ) where
             after m = not (collides (join_cells (value (v m)) (asked_by j x t m (suc i))))
 
             away : (m : ℕ) → (m ≡ half1 w → ⊥) → asked_with (bit_of (get_or guards (half3 w) 0) p) m (clause_of w) ≡ value v_x
-            away m q = rw (ne_eqb (half1 w) m (λ y. q (sym y)), and-false (bit_of (get_or guards (half3 w) 0) p), and-false (same_side (clause_of w).side stimulus))
+            away m q = rw (ne_eqb (half1 w) m (λ y. q (sym y)), and-false (bit_of (get_or guards (half3 w) 0) p), and-false (same_side (clause_of w).side Stimulus))
 
-            quiet : same_side (clause_of w).side stimulus ≡ false → T (each before n) → collides (join_cells (value (v (half1 w))) (asked_by j x t (half1 w) (suc i))) ≡ false
+            quiet : same_side (clause_of w).side Stimulus ≡ false → T (each before n) → collides (join_cells (value (v (half1 w))) (asked_by j x t (half1 w) (suc i))) ≡ false
             quiet q u =
                 ap collides (cell_stays p x (half1 w) (value (v (half1 w))) g (rw q))
                 ∙ not-true _ (each_e before n u (half1 w) node)

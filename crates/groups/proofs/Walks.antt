@@ -10,7 +10,9 @@ use lib.ListN.{get_or}
 use Rattle.scans.specs.First.{first_bad, each}
 use Rattle.scans.proofs.Search.{each_suc}
 use Rattle.meaning.specs.Values.{Value, v_x, value, join_cells, has, bit}
-use Rattle.meaning.specs.Jobs.{stimulus, expectation, Clause, on, Job}
+use Rattle.meaning.specs.declared.Clause.{Clause}
+use Rattle.meaning.specs.declared.Side.TheVariants.{Stimulus, Expectation}
+use Rattle.meaning.specs.Jobs.{on, Job}
 use Rattle.meaning.specs.Rows.{asked, asked_by}
 use Rattle.meaning.specs.Cases.{missed}
 use Rattle.meaning.proofs.Clauses.{asks_off}
@@ -45,7 +47,7 @@ module _ (j : Job) (x t n : ℕ) where
 
   -- a clause of another time adds nothing
   asked_off : (i : ℕ) → on (j.clause i) t ≡ false → asked_by j x t n (suc i) ≡ asked_by j x t n i
-  asked_off i e = asked_more i ∙ ap (λ b. join_cells (asked_by j x t n i) (value (cond b (bit (j.clause i).value) v_x))) (asks_off j stimulus x t n (j.clause i) e) ∙ join_nothing (asked_by j x t n i)
+  asked_off i e = asked_more i ∙ ap (λ b. join_cells (asked_by j x t n i) (value (cond b (bit (j.clause i).value) v_x))) (asks_off j Stimulus x t n (j.clause i) e) ∙ join_nothing (asked_by j x t n i)
 
   pub asked_jump : (i k : ℕ) → Next j.clause j.count t i k → asked_by j x t n k ≡ asked_by j x t n i
   asked_jump = jump j.clause j.count (asked_by j x t n) t asked_off
@@ -73,7 +75,7 @@ module _ (j : Job) (x t : ℕ) (v : ℕ → Value) where
 
   -- a clause of another time is not missed at this one
   missed_off : (i : ℕ) → on (j.clause i) t ≡ false → missed_by (suc i) ≡ missed_by i
-  missed_off i e = missed_more i ∙ ap (λ b. missed_by i || (b && not (has (value (v (j.clause i).node)) (bit (j.clause i).value)))) (asks_off j expectation x t (j.clause i).node (j.clause i) e) ∙ or-false (missed_by i)
+  missed_off i e = missed_more i ∙ ap (λ b. missed_by i || (b && not (has (value (v (j.clause i).node)) (bit (j.clause i).value)))) (asks_off j Expectation x t (j.clause i).node (j.clause i) e) ∙ or-false (missed_by i)
 
   pub missed_jump : (i k : ℕ) → Next j.clause j.count t i k → missed_by k ≡ missed_by i
   missed_jump = jump j.clause j.count missed_by t missed_off

@@ -5,7 +5,9 @@ use Rattle.std.specs.Prelude.{◌≡◌, Bool, true, not, ◌&&◌, cond, List, 
 use Rattle.scans.specs.First.{each}
 use Rattle.meaning.specs.Values.{Value, v_x, Cell, value, join_cells, collides, has, bit}
 use Rattle.meaning.specs.Guards.{bit_of}
-use Rattle.meaning.specs.Jobs.{stimulus, expectation, same_side, Clause, on, Job}
+use Rattle.meaning.specs.declared.Clause.{Clause}
+use Rattle.meaning.specs.declared.Side.TheVariants.{Stimulus, Expectation}
+use Rattle.meaning.specs.Jobs.{same_side, on, Job}
 use Rattle.meaning.specs.Rows.{asked_by}
 use Rattle.meaning.specs.Runs.{forces}
 use Rattle.meaning.specs.Cases.{met_at}
@@ -51,7 +53,7 @@ pub record Expects (j : Job) (n e t : ℕ) (guards zeros ones : List ℕ) (r : �
 
 -- what a clause asks of node m where its guard's truth is b
 abbrev pub asked_with : Bool → ℕ → Clause → Cell
-asked_with b m c = value (cond (same_side c.side stimulus && (b && eqb c.node m)) (bit c.value) v_x)
+asked_with b m c = value (cond (same_side c.side Stimulus && (b && eqb c.node m)) (bit c.value) v_x)
 
 -- one clause of the stimulus: joined at its node wherever its guard's word has a bit, and the answer says where that node then collides
 pub record NarrowsBy (clause n : ℕ) (guards zeros ones zeros' ones' : List ℕ) (r : ℕ) : Type 0 where
@@ -60,9 +62,9 @@ pub record NarrowsBy (clause n : ℕ) (guards zeros ones zeros' ones' : List ℕ
   pub joined : (i : ℕ) → i < 64 → (f : ℕ → Cell) → Held n zeros ones i f
       → Held n zeros' ones' i (λ m. join_cells (f m) (asked_with (bit_of (get_or guards (half3 clause) 0) i) m (clause_of clause)))
   pub elsewhere : (m : ℕ) → (m ≡ half1 clause → ⊥) → pair_at zeros' ones' m ≡ pair_at zeros ones m
-  pub collided : (i : ℕ) → i < 64 → bit_of r i ≡ (same_side (clause_of clause).side stimulus && collides (cell_at (pair_at zeros' ones' (half1 clause)) i))
+  pub collided : (i : ℕ) → i < 64 → bit_of r i ≡ (same_side (clause_of clause).side Stimulus && collides (cell_at (pair_at zeros' ones' (half1 clause)) i))
 
 -- one clause of the expectation: wherever the words hold values and its guard's word has a bit, the answer says whether its node differs from what it wants
 pub record MissedWhere (clause n : ℕ) (guards zeros ones : List ℕ) (r : ℕ) : Type 0 where
   pub at : (i : ℕ) → i < 64 → (v : ℕ → Value) → Held n zeros ones i (λ m. value (v m))
-      → bit_of r i ≡ (same_side (clause_of clause).side expectation && bit_of (get_or guards (half3 clause) 0) i && not (has (value (v (half1 clause))) (bit (clause_of clause).value)))
+      → bit_of r i ≡ (same_side (clause_of clause).side Expectation && bit_of (get_or guards (half3 clause) 0) i && not (has (value (v (half1 clause))) (bit (clause_of clause).value)))

@@ -2,7 +2,8 @@
 -- the stimulus has changed.
 -- Assumes nothing.
 use Rattle.std.specs.Prelude.{◌≡◌, true, List, ℕ, ◌≤◌, ◌<◌, get_or}
-use Rattle.meaning.specs.Jobs.{Clause, on}
+use Rattle.meaning.specs.declared.Clause.{Clause}
+use Rattle.meaning.specs.Jobs.{on}
 use Rattle.words.specs.declared.Pair.{Pair}
 use Rattle.decoded.specs.Fields.{byte0}
 use Rattle.groups.specs.Held.{pair_at, GateForces}

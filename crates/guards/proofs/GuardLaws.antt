@@ -9,7 +9,8 @@ use native.Mathlib.Omega.{arith}
 use borrow.Author.Tests.{lt-ltb, le-ltb}
 use lib.ListN.{length, get_or, set, length-append, get_or-append, get_or-eq_default}
 use lib.Seq.{get_or-set_same, get_or-set_other, get_or-append-add}
-use Rattle.meaning.specs.Guards.{bit_of, Expression, truths, truth}
+use Rattle.meaning.specs.declared.Expression.{Expression}
+use Rattle.meaning.specs.Guards.{bit_of, truths, truth}
 use Rattle.words.specs.Places.{op_truth, ExpressionWord}
 use Rattle.words.proofs.Bits.{bit_zero}
 use Rattle.words.proofs.Expressions.{op_truth_lem}

@@ -1,5 +1,6 @@
 -- The laws of packing: each refusal leaves the output as it was, and otherwise it holds the stored job.
 -- Assumes nothing.
+use Rattle.std.specs.Prelude.{Result, Ok, Err}
 use mathlib.Core.Path.{◌≡◌, refl, sym, ◌∙◌, ap}
 use mathlib.Core.Bool.{Bool, true, false, not}
 use mathlib.Core.List.{List, [], ◌∷◌, ◌++◌}
@@ -14,10 +15,6 @@ use Rattle.scans.proofs.Exactly.{in_order_append}
 use Rattle.meaning.specs.Stated.{Stated}
 use Rattle.stored.specs.declared.Size.{Size}
 use Rattle.stored.specs.declared.Refusal.{Refusal}
-use Rattle.stored.specs.declared.Packed.{Packed}
-use Rattle.stored.specs.declared.Packed.TheVariants.{Written, Refused}
-use Rattle.blocks.specs.declared.rules.Rules.{Rules}
-use Rattle.blocks.specs.declared.rules.Rules.TheVariants.{Kept, Broken}
 use Rattle.scans.specs.Lists.{list_of}
 use Rattle.stored.specs.Layout.{Records, sizes_of, blocks_of, block_byte, stored}
 use Rattle.stored.specs.Rules.{limits_ok}
@@ -44,22 +41,22 @@ module _ (k : ℕ) (nodes expressions clauses out : List ℕ) where
   size = 512 * blocks_of (sizes_of r)
 
   -- a refusal leaves the output as it was
-  kept : {p : Packed} {m b l : ℕ} → stated_packed p ≡ refused m b l → pack_answer r (length out) ≡ refused m b l → Packs r out out p
+  kept : {p : Result ℕ Refusal} {m b l : ℕ} → stated_packed p ≡ refused m b l → pack_answer r (length out) ≡ refused m b l → Packs r out out p
   unfolding lent
   kept p q = record { answer = p ∙ sym q; out_is = rw q }
 
   -- 1 LENGTH
-  pub pack_lists : {p : Packed} {t : Bool} → t ≡ lists_pass (length nodes) (length expressions) (length clauses) → not t ≡ true → stated_packed p ≡ refused 1 0 0 → Packs r out out p
+  pub pack_lists : {p : Result ℕ Refusal} {t : Bool} → t ≡ lists_pass (length nodes) (length expressions) (length clauses) → not t ≡ true → stated_packed p ≡ refused 1 0 0 → Packs r out out p
   unfolding pack_answer lists_pass lists_ok
   pack_lists e f p = kept p (sym (on_failed refused _ (written size) 1 e f refl))
 
   module _ {t : Bool} (lists : t ≡ lists_pass (length nodes) (length expressions) (length clauses)) (pass : not t ≡ false) where
     -- 4 HEADER
-    pub pack_limits : {p : Packed} {u : Bool} → u ≡ limits_ok (sizes_of r) → not u ≡ true → stated_packed p ≡ refused 4 0 0 → Packs r out out p
+    pub pack_limits : {p : Result ℕ Refusal} {u : Bool} → u ≡ limits_ok (sizes_of r) → not u ≡ true → stated_packed p ≡ refused 4 0 0 → Packs r out out p
     unfolding pack_answer lists_pass lists_ok
     pack_limits e f p = kept p (sym (on_passed refused _ (written size) 1 lists pass (on_failed refused _ (written size) 4 e f refl)))
 
-    module _ {u : Bool} (limits : u ≡ limits_ok (sizes_of r)) (within : not u ≡ false) {res : Rules} (follows : Follows (sizes_of r) nodes 0 expressions 0 clauses 0 res) where
+    module _ {u : Bool} (limits : u ≡ limits_ok (sizes_of r)) (within : not u ≡ false) {res : Result Unit Refusal} (follows : Follows (sizes_of r) nodes 0 expressions 0 clauses 0 res) where
       -- past the first two, the records' own rules
       rules_next : (next : Stated) → in_order refused (pack_stages r) next ≡ followed res next
       unfolding lists_pass lists_ok
@@ -68,13 +65,13 @@ module _ (k : ℕ) (nodes expressions clauses out : List ℕ) where
           ∙ sym (follows.is next ∙ spotted_listed r next)
 
       -- 8 GATE, 9 EXPRESSION, 10 CLAUSE
-      pub pack_broken : {x : Refusal} → res ≡ Broken x → Packs r out out (Refused x)
+      pub pack_broken : {x : Refusal} → res ≡ Err x → Packs r out out (Err x)
       unfolding pack_answer
       pack_broken {x} e =
           let room = in_order refused (whole 13 (leb size (length out)) ∷ []) (written size) in
-          kept {p = Refused x} refl (in_order_append refused (pack_stages r) _ (written size) ∙ rules_next room ∙ ap (λ y. followed y room) e)
+          kept {p = Err x} refl (in_order_append refused (pack_stages r) _ (written size) ∙ rules_next room ∙ ap (λ y. followed y room) e)
 
-      pub pack_ready : res ≡ Kept → Ready (sizes_of r) nodes expressions clauses
+      pub pack_ready : res ≡ Ok tt → Ready (sizes_of r) nodes expressions clauses
       pack_ready e =
           let l = (limits_rule (sizes_of r)).0 (cc (not-false u within)) in
           record {
@@ -96,13 +93,13 @@ module _ (z : Size) (nodes expressions clauses out : List ℕ) (ready : Ready z 
   same_size e = e ∙ ap (λ y. 512 * blocks_of y) ready.counted.is
 
   -- 13 ROOM
-  pub pack_short : {p : Packed} {bytes : ℕ} → bytes ≡ 512 * blocks_of z → length out < bytes → stated_packed p ≡ refused 13 0 0 → Packs q out out p
+  pub pack_short : {p : Result ℕ Refusal} {bytes : ℕ} → bytes ≡ 512 * blocks_of z → length out < bytes → stated_packed p ≡ refused 13 0 0 → Packs q out out p
   pack_short e h p =
       kept z.k nodes expressions clauses out p
       (room_next ∙ sym (on_failed refused [] (written (512 * blocks_of (sizes_of q))) 13 {t = false} (sym (lt-leb (512 * blocks_of (sizes_of q)) (length out) (omega (arith, same_size e)))) refl refl))
 
   -- the output is long enough, and written
-  pub pack_done : {bytes : ℕ} {out' : List ℕ} → bytes ≡ 512 * blocks_of z → bytes ≤ length out → out' ≡ list_of (λ j. block_byte q (j / 512) (j % 512)) bytes ++ drop bytes out → Packs q out out' (Written bytes)
+  pub pack_done : {bytes : ℕ} {out' : List ℕ} → bytes ≡ 512 * blocks_of z → bytes ≤ length out → out' ≡ list_of (λ j. block_byte q (j / 512) (j % 512)) bytes ++ drop bytes out → Packs q out out' (Ok bytes)
   unfolding stored lent
   pack_done {bytes} e h w =
       let s = same_size e in

@@ -1,5 +1,6 @@
 -- The laws of unpacking: what reading refuses is refused, a list too short is refused, and otherwise the three lists hold the records.
 -- Assumes nothing.
+use Rattle.std.specs.Prelude.{Result, Ok, Err}
 use mathlib.Core.Path.{◌≡◌, refl, sym, ◌∙◌, ap}
 use mathlib.Core.Bool.{Bool, true, false, not}
 use mathlib.Core.List.{List, [], ◌∷◌, ◌++◌}
@@ -12,8 +13,6 @@ use Rattle.scans.proofs.Exactly.{in_order_append, refused_still, passed_on}
 use Rattle.meaning.specs.Stated.{Stated}
 use Rattle.stored.specs.declared.Size.{Size}
 use Rattle.stored.specs.declared.Refusal.{Refusal}
-use Rattle.stored.specs.declared.Read.{Read}
-use Rattle.stored.specs.declared.Read.TheVariants.{Accepted, Refused}
 use Rattle.scans.specs.Lists.{list_of}
 use Rattle.stored.specs.Layout.{sizes_of, first_expressions, first_clauses, header_sizes, record_byte, records_of}
 use Rattle.stored.specs.Reading.{read_stages, refused, accepted_as, read_answer, room_ok, unpack_answer, lent, stated_read}
@@ -48,7 +47,7 @@ module _ (s nodes expressions clauses : List ℕ) where
   abbrev answer : Stated
   answer = unpack_answer s (length nodes) (length expressions) (length clauses)
 
-  all_kept : {r : Read} {m b l : ℕ} → stated_read r ≡ refused m b l → answer ≡ refused m b l → Unpacks s nodes expressions clauses nodes expressions clauses r
+  all_kept : {r : Result Size Refusal} {m b l : ℕ} → stated_read r ≡ refused m b l → answer ≡ refused m b l → Unpacks s nodes expressions clauses nodes expressions clauses r
   all_kept p q =
       record {
         answer = p ∙ sym q;
@@ -58,11 +57,11 @@ module _ (s nodes expressions clauses : List ℕ) where
       }
 
   -- a refusal of reading
-  pub unpack_refused : {r : Read} {x : Refusal} → stated_read r ≡ read_answer s → r ≡ Refused x → Unpacks s nodes expressions clauses nodes expressions clauses (Refused x)
+  pub unpack_refused : {r : Result Size Refusal} {x : Refusal} → stated_read r ≡ read_answer s → r ≡ Err x → Unpacks s nodes expressions clauses nodes expressions clauses (Err x)
   unfolding read_answer unpack_answer
   unpack_refused {r} {x} p q =
       let e : in_order refused (read_stages s (blocks_in s)) (accepted_as (header_sizes s)) ≡ refused x.number x.block x.«record» = sym p ∙ ap stated_read q in
-      all_kept {r = Refused x} refl
+      all_kept {r = Err x} refl
       (in_order_append refused (read_stages s (blocks_in s)) _ (accepted_as (header_sizes s))
       ∙ refused_still refused (read_stages s (blocks_in s)) (λ f. refused_done x.number x.block x.«record» (sym f)) e _)
 
@@ -77,7 +76,7 @@ module _ (s nodes expressions clauses : List ℕ) where
         ∙ ap (λ y. in_order refused (whole 13 (room_ok y (length nodes) (length expressions) (length clauses)) ∷ []) (accepted_as y)) (sym (accepted_sizes s z accepted))
 
     -- a list is too short
-    pub unpack_short : {r : Read} {t : Bool} → t ≡ room_ok z (length nodes) (length expressions) (length clauses) → not t ≡ true → stated_read r ≡ refused 13 0 0 → Unpacks s nodes expressions clauses nodes expressions clauses r
+    pub unpack_short : {r : Result Size Refusal} {t : Bool} → t ≡ room_ok z (length nodes) (length expressions) (length clauses) → not t ≡ true → stated_read r ≡ refused 13 0 0 → Unpacks s nodes expressions clauses nodes expressions clauses r
     unpack_short e f p = all_kept p (room_next ∙ sym (on_failed refused [] (accepted_as z) 13 e f refl))
 
     -- the lists are long enough, and written
@@ -86,7 +85,7 @@ module _ (s nodes expressions clauses : List ℕ) where
         → nodes' ≡ list_of (record_byte s 1) (8 * z.n) ++ drop (8 * z.n) nodes
         → expressions' ≡ list_of (record_byte s e1) (8 * z.e) ++ drop (8 * z.e) expressions
         → clauses' ≡ list_of (record_byte s c1) (8 * z.c) ++ drop (8 * z.c) clauses
-        → Unpacks s nodes expressions clauses nodes' expressions' clauses' (Accepted z)
+        → Unpacks s nodes expressions clauses nodes' expressions' clauses' (Ok z)
     unfolding records_of
     unpack_done {e1 = e1} {c1} e f p q n x c =
         let a = room_next ∙ sym (on_passed refused [] (accepted_as z) 13 e f (on_end refused (accepted_as z) refl)) in

@@ -1,5 +1,6 @@
 -- The line told is that of what check answered.
 -- Assumes nothing.
+use Rattle.std.specs.Prelude.{Result, Ok, Err}
 use borrow.Author.Tests.{leb-true}
 use mathlib.Core.Path.{◌≡◌, refl, sym, ◌∙◌, ap, subst}
 use mathlib.Core.Bool.{Bool, true, false, cond}
@@ -11,8 +12,6 @@ use lib.ListN.{length, take}
 use lib.Seq.{length-take-le}
 use Rattle.meaning.specs.declared.JobAnswer.{JobAnswer}
 use Rattle.stored.specs.declared.Refusal.{Refusal}
-use Rattle.verdicts.specs.declared.Checked.{Checked}
-use Rattle.verdicts.specs.declared.Checked.TheVariants.{Answered, Refused}
 use Rattle.verdicts.specs.Running.{check_answer, stated_checked}
 use Rattle.lines.specs.Lines.{checked_line}
 use Rattle.lines.specs.Written.{Gives}
@@ -20,11 +19,11 @@ use Rattle.kelpanvil.specs.declared.Input.{Input}
 use Rattle.kelpanvil.specs.declared.Input.TheVariants.{Bytes}
 use Rattle.kelpanvil.specs.Told.{Within, Tells}
 
-pub tells : {job out out' : List ℕ} {n : ℕ} {v w : Checked} → stated_checked v ≡ check_answer job → v ≡ w → Gives (checked_line w) out out' n → length (checked_line w) ≤ 256 → Tells job out out' n
+pub tells : {job out out' : List ℕ} {n : ℕ} {v w : Result JobAnswer Refusal} → stated_checked v ≡ check_answer job → v ≡ w → Gives (checked_line w) out out' n → length (checked_line w) ≤ 256 → Tells job out out' n
 tells {w = w} s e g l = record { answer = w; answers = ap stated_checked (sym e) ∙ s; given = g; fits = l }
 
 -- a refusal is no verdict
-pub no_verdict : {P : Type 0} {r : Refusal} {a : JobAnswer} → Refused r ≡ Answered a → P
+pub no_verdict : {P : Type 0} {r : Refusal} {a : JobAnswer} → Err r ≡ Ok a → P
 no_verdict e = let z : ◌≡◌ {A = ℕ} 0 1 = cc in absurd (omega arith)
 
 -- what is lent on: the bytes that were read, and the line

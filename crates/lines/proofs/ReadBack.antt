@@ -1,5 +1,7 @@
 -- A line says what was answered: read back, it gives the word and the numbers that 01 states for the answer.
 -- Assumes nothing.
+use Rattle.std.specs.Prelude.{Result, Ok, Err}
+use Rattle.stored.specs.declared.Refusal.{Refusal}
 use borrow.Author.Tests.{eqb-true, le-leb, lt-ltb}
 use mathlib.Core.Path.{◌≡◌, refl, ◌∙◌, ap}
 use mathlib.Core.Bool.{Bool, true, false, not, ◌&&◌, cond}
@@ -17,8 +19,6 @@ use Rattle.meaning.specs.declared.JobAnswer.{JobAnswer}
 use Rattle.meaning.specs.declared.JobAnswer.TheVariants.{Holds, Fails, Vacant}
 use Rattle.meaning.specs.Stated.{Word, REFUSED, HOLDS, FAILS, VACANT, Stated, state, stated_job}
 use Rattle.stored.specs.Reading.{refused}
-use Rattle.verdicts.specs.declared.Checked.{Checked}
-use Rattle.verdicts.specs.declared.Checked.TheVariants.{Answered, Refused}
 use Rattle.verdicts.specs.Running.{stated_checked}
 use Rattle.texts.specs.Texts.{text}
 use Rattle.texts.specs.Decimals.{digit, decimal}
@@ -157,6 +157,6 @@ unfolding read_line word_in field refusal_line
 refusal_reads number block slot = ap (state REFUSED) (refusal_numbers number block slot)
 
 -- whatever was answered
-pub line_reads : (a : Checked) → read_line (checked_line a) ≡ stated_checked a
-line_reads (Answered a) = verdict_reads a
-line_reads (Refused r) = refusal_reads r.number r.block r.«record»
+pub line_reads : (a : Result JobAnswer Refusal) → read_line (checked_line a) ≡ stated_checked a
+line_reads (Ok a) = verdict_reads a
+line_reads (Err r) = refusal_reads r.number r.block r.«record»

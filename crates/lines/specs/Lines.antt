@@ -1,12 +1,12 @@
 -- The line that the check program prints, with the newline that ends it.
 -- Assumes nothing.
+use Rattle.std.specs.Prelude.{Result, Ok, Err}
+use Rattle.stored.specs.declared.Refusal.{Refusal}
 use Rattle.std.specs.Prelude.{cond, List, ◌++◌, ℕ, eqb}
 use Prim.Native.String.{String}
 use Rattle.meaning.specs.declared.Counts.{Counts}
 use Rattle.meaning.specs.declared.JobAnswer.{JobAnswer}
 use Rattle.meaning.specs.declared.JobAnswer.TheVariants.{Holds, Fails, Vacant}
-use Rattle.verdicts.specs.declared.Checked.{Checked}
-use Rattle.verdicts.specs.declared.Checked.TheVariants.{Answered, Refused}
 use Rattle.texts.specs.Texts.{text}
 use Rattle.texts.specs.Decimals.{decimal}
 
@@ -36,6 +36,6 @@ unfoldable pub refusal_line : ℕ → ℕ → ℕ → List ℕ
 refusal_line number block slot = field "REFUSED " number ++ field " block=" block ++ field " record=" slot ++ text "\n"
 
 -- the line of whatever the check of a job answered
-abbrev pub checked_line : Checked → List ℕ
-checked_line (Answered a) = verdict_line a
-checked_line (Refused r) = refusal_line r.number r.block r.«record»
+abbrev pub checked_line : Result JobAnswer Refusal → List ℕ
+checked_line (Ok a) = verdict_line a
+checked_line (Err r) = refusal_line r.number r.block r.«record»

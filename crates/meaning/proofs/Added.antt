@@ -12,7 +12,10 @@ use Rattle.meaning.specs.declared.JobAnswer.{JobAnswer}
 use Rattle.meaning.specs.declared.JobAnswer.TheVariants.{Holds, Vacant}
 use Rattle.meaning.specs.Values.{bit}
 use Rattle.meaning.specs.Guards.{truth}
-use Rattle.meaning.specs.Jobs.{Netlist, Side, stimulus, expectation, Clause, until, Job, asks, Asks, last_time, cases, WellFormed}
+use Rattle.meaning.specs.declared.Side.{Side}
+use Rattle.meaning.specs.declared.Clause.{Clause}
+use Rattle.meaning.specs.declared.Side.TheVariants.{Stimulus, Expectation}
+use Rattle.meaning.specs.Jobs.{Netlist, until, Job, asks, Asks, last_time, cases, WellFormed}
 use Rattle.meaning.specs.Runs.{States, Run, Meeting}
 use Rattle.meaning.specs.Answers.{job_answer}
 use Rattle.meaning.specs.Demands.{Passing, Failing}
@@ -30,8 +33,8 @@ pub record MoreStimulus (j j' : Job) : Type 0 where
   pub same_net : j'.netlist ≡ j.netlist
   pub same_variables : j'.variables ≡ j.variables
   pub longer : last_time j ≤ last_time j'
-  pub kept : (x t n i : ℕ) → Asks j stimulus x t n i → Kept j j' stimulus x t n i
-  pub no_new : (x t n i : ℕ) → Asks j' expectation x t n i → Kept j' j expectation x t n i
+  pub kept : (x t n i : ℕ) → Asks j Stimulus x t n i → Kept j j' Stimulus x t n i
+  pub no_new : (x t n i : ℕ) → Asks j' Expectation x t n i → Kept j' j Expectation x t n i
 
 either : (a : JobAnswer) → (T (is_fails_job a) → ⊥) → T (is_holds a || is_vacant a)
 either (Holds c) h = tt
@@ -128,7 +131,7 @@ module _ (j : Job) (at : ℕ) (c : Clause) (within : at ≤ j.count) where
         value_is = ap (λ d. d.value) e;
       }
 
-  pub added : c.side ≡ stimulus → MoreStimulus j more
+  pub added : c.side ≡ Stimulus → MoreStimulus j more
   unfolding last_time
   added s =
       record {
@@ -139,14 +142,14 @@ module _ (j : Job) (at : ℕ) (c : Clause) (within : at ≤ j.count) where
         no_new = λ x t n i a. from x t n i a (origin i);
       }
     where
-      from : (x t n i : ℕ) → Asks more expectation x t n i → Origin i → Kept more j expectation x t n i
+      from : (x t n i : ℕ) → Asks more Expectation x t n i → Origin i → Kept more j Expectation x t n i
       from x t n i a (new e) = clash (sym s ∙ ap (λ d. d.side) (sym e) ∙ asks_side more a)
         where
-          clash : stimulus ≡ expectation → Kept more j expectation x t n i
+          clash : Stimulus ≡ Expectation → Kept more j Expectation x t n i
           clash q = let z : ◌≡◌ {A = ℕ} 0 1 = cc in absurd (omega arith)
       from x t n i a (old k within e) = carried more j refl k within e a
 
 -- demand 3's last sentence
-pub one_more : (j : Job) (at : ℕ) (c : Clause) → at ≤ j.count → c.side ≡ stimulus → WellFormed j → WellFormed (with_clause j at c) → T (is_holds (job_answer j))
+pub one_more : (j : Job) (at : ℕ) (c : Clause) → at ≤ j.count → c.side ≡ Stimulus → WellFormed j → WellFormed (with_clause j at c) → T (is_holds (job_answer j))
     → T (is_holds (job_answer (with_clause j at c)) || is_vacant (job_answer (with_clause j at c)))
 one_more j at c within s = more_stimulus j (with_clause j at c) (added j at c within s)

@@ -10,7 +10,8 @@ use Rattle.scans.proofs.Bools.{of_true}
 use Rattle.meaning.specs.declared.CaseAnswer.{CaseAnswer}
 use Rattle.meaning.specs.declared.CaseAnswer.TheVariants.{Passes, Empty, Fails}
 use Rattle.meaning.specs.Values.{value, collides, has, bit, number, cell_number}
-use Rattle.meaning.specs.Jobs.{expectation, Job, Asks, last_time, WellFormed}
+use Rattle.meaning.specs.declared.Side.TheVariants.{Expectation}
+use Rattle.meaning.specs.Jobs.{Job, Asks, last_time, WellFormed}
 use Rattle.meaning.specs.Rows.{cell}
 use Rattle.meaning.specs.Runs.{States, Meeting, MissedBy, Weakest}
 use Rattle.meaning.specs.Cases.{case_answer, answer_of, is_passes, is_empty, is_fails}
@@ -43,7 +44,7 @@ module _ (j : Job) (w : WellFormed j) (x : ℕ) where
   weakest f = rows_weakest j w x last (λ t n l h. f t n (l, h))
 
   -- every run that meets the stimulus has what the rows have at 0 and at 1
-  above : (s : States) → Meeting j x last s → {t n i : ℕ} → Asks j expectation x t n i → row_states j x t n ≡ bit (j.clause i).value → s t n ≡ bit (j.clause i).value
+  above : (s : States) → Meeting j x last s → {t n i : ℕ} → Asks j Expectation x t n i → row_states j x t n ≡ bit (j.clause i).value → s t n ≡ bit (j.clause i).value
   above s m {t} {n} {i} a e =
       bit_le (j.clause i).value (le_trans (le_of_eq (sym e)) (under_read (rows_under j w x last s m t n (place_time j a) (place_node j a w))))
 
@@ -58,7 +59,7 @@ module _ (j : Job) (w : WellFormed j) (x : ℕ) where
         every = λ s m. record { met = λ t n i l a. above s m a (met a) };
       }
     where
-      met : {t n i : ℕ} → Asks j expectation x t n i → row_states j x t n ≡ bit (j.clause i).value
+      met : {t n i : ℕ} → Asks j Expectation x t n i → row_states j x t n ≡ bit (j.clause i).value
       met {t} {n} {i} a = go (has (cell j x t n) (bit (j.clause i).value)) refl
         where
           go : (b : Bool) → has (cell j x t n) (bit (j.clause i).value) ≡ b → row_states j x t n ≡ bit (j.clause i).value
@@ -89,7 +90,7 @@ module _ (j : Job) (w : WellFormed j) (x : ℕ) where
       record { place = (p.1.in_time, p.1.in_row); here = p.1.here; before = λ t' n' h b. p.1.before t' n' h.1 b }
   describes (Fails t n v f) p =
       let free : NoCollision j (cell j x) = λ t n h. run_free j w x last p.run p.weakest.meeting t n h.0 h.1 in
-      let same : (t n i : ℕ) → Asks j expectation x t n i → p.run t n ≡ row_states j x t n =
+      let same : (t n i : ℕ) → Asks j Expectation x t n i → p.run t n ≡ row_states j x t n =
       λ t n i a. weakest_one j w x last p.weakest (weakest free) t n (place_time j a) (place_node j a w) in
       let here = p.here.1.asks in
       record {

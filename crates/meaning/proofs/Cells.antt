@@ -9,7 +9,8 @@ use lib.Dec.{T, eqb, eqb→eq, ltb}
 use lib.ListN.{get_or}
 use Rattle.scans.proofs.Bools.{and_left, and_right}
 use Rattle.meaning.specs.Values.{Value, v0, v1, v_x, Cell, value, collision, join, join_cells, same_value, cell_number}
-use Rattle.meaning.specs.Gates.{Gate, arity, gate_forces}
+use Rattle.meaning.specs.declared.Gate.{Gate}
+use Rattle.meaning.specs.Gates.{arity, gate_forces}
 use Rattle.meaning.proofs.Everywhere.{values, values_e, values2_e, gates_e}
 use Rattle.meaning.proofs.Values.{same_value_lem}
 

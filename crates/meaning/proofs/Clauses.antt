@@ -9,15 +9,18 @@ use Rattle.scans.proofs.Bools.{and_left, and_right}
 use Rattle.scans.proofs.Search.{below_suc}
 use Rattle.meaning.specs.Values.{Value, v_x, ◌⊑◌, value, join_cells, bit}
 use Rattle.meaning.specs.Guards.{truth}
-use Rattle.meaning.specs.Jobs.{Side, stimulus, expectation, same_side, Clause, on, until, Job, speaks, asks, Asks, latest, last_time, WellFormed}
+use Rattle.meaning.specs.declared.Side.{Side}
+use Rattle.meaning.specs.declared.Clause.{Clause}
+use Rattle.meaning.specs.declared.Side.TheVariants.{Stimulus, Expectation}
+use Rattle.meaning.specs.Jobs.{same_side, on, until, Job, speaks, asks, Asks, latest, last_time, WellFormed}
 use Rattle.meaning.specs.Rows.{asked, asked_by, stimulus_at}
 use Rattle.meaning.proofs.Values.{le_refl, Under, Over, over_left, over_right, under_both}
 
 pub same_side_lem : (a b : Side) → T (same_side a b) → a ≡ b
-same_side_lem stimulus stimulus t = refl
-same_side_lem stimulus expectation t = absurd t
-same_side_lem expectation stimulus t = absurd t
-same_side_lem expectation expectation t = refl
+same_side_lem Stimulus Stimulus t = refl
+same_side_lem Stimulus Expectation t = absurd t
+same_side_lem Expectation Stimulus t = absurd t
+same_side_lem Expectation Expectation t = refl
 
 pub on_until : (c : Clause) (t : ℕ) → T (on c t) → t ≤ until c
 unfolding on until
@@ -79,7 +82,7 @@ asks_off j side x t n c e = rw (e, and-false, and-false)
 
 module _ (j : Job) (x t n : ℕ) where
   abbrev there : ℕ → Bool
-  there i = asks j stimulus x t n (j.clause i)
+  there i = asks j Stimulus x t n (j.clause i)
 
   -- each stimulus clause that speaks there is at most what is asked there
   asked_over : (m i : ℕ) → i < m → T (there i) → Over (bit (j.clause i).value) (asked_by j x t n m)
@@ -93,7 +96,7 @@ module _ (j : Job) (x t n : ℕ) where
       go true u = record { le = (le_refl (bit (j.clause m).value)).le }
       go false u = absurd u
 
-  pub stimulus_over : {i : ℕ} → Asks j stimulus x t n i → Over (bit (j.clause i).value) (stimulus_at j x t n)
+  pub stimulus_over : {i : ℕ} → Asks j Stimulus x t n i → Over (bit (j.clause i).value) (stimulus_at j x t n)
   unfolding stimulus_at
   stimulus_over {i} a = asked_over j.count i a.below a.there
 
@@ -107,6 +110,6 @@ module _ (j : Job) (x t n : ℕ) where
       go true g = record { le = (g tt).le }
       go false g = record { le = tt }
 
-  pub stimulus_under : {b : Value} → ((i : ℕ) → Asks j stimulus x t n i → bit (j.clause i).value ⊑ b) → Under (stimulus_at j x t n) b
+  pub stimulus_under : {b : Value} → ((i : ℕ) → Asks j Stimulus x t n i → bit (j.clause i).value ⊑ b) → Under (stimulus_at j x t n) b
   unfolding stimulus_at
   stimulus_under f = asked_under j.count (λ i l a. f i (record { below = l; there = a }))

@@ -1,6 +1,7 @@
 -- A case's answer described by its rows, with no search: the answer of 01 fits its description, and nothing else does.
 -- So whoever shows that an answer fits, a program above all, has shown that it is the answer.
 -- Assumes nothing.
+use Rattle.std.specs.Prelude.{Option, None, Some}
 use mathlib.Core.Path.{◌≡◌, refl, sym, ◌∙◌, ap₂}
 use mathlib.Core.Logic.{inl, inr, ◌↔◌}
 use mathlib.Core.Bool.{Bool, true, false, not, ◌&&◌, cond}
@@ -9,8 +10,6 @@ use native.Mathlib.Decide.{dec_lt}
 use native.Mathlib.Omega.{arith}
 use borrow.Author.Tests.{not-true, not-false}
 use lib.Dec.{T, T_not}
-use Rattle.scans.specs.declared.Place.{Place}
-use Rattle.scans.specs.declared.Place.TheVariants.{Nowhere, At}
 use Rattle.scans.specs.First.{each, first_place, FirstPlace}
 use Rattle.scans.proofs.Bools.{is_true, of_true, is_false, and_left, and_right, and_both}
 use Rattle.scans.proofs.Search.{each_e, each_not}
@@ -18,7 +17,8 @@ use Rattle.scans.proofs.Places.{nowhere_each, found_at}
 use Rattle.meaning.specs.declared.CaseAnswer.{CaseAnswer}
 use Rattle.meaning.specs.declared.CaseAnswer.TheVariants.{Passes, Empty, Fails}
 use Rattle.meaning.specs.Values.{Cell, collides, has, bit, cell_number}
-use Rattle.meaning.specs.Jobs.{expectation, Job, asks, Asks, last_time}
+use Rattle.meaning.specs.declared.Side.TheVariants.{Expectation}
+use Rattle.meaning.specs.Jobs.{Job, asks, Asks, last_time}
 use Rattle.meaning.specs.Rows.{cell}
 use Rattle.meaning.specs.Demands.{Before}
 use Rattle.meaning.specs.Cases.{missed, met_at, wanted_at, answer_at, first_collision, first_miss, answer_of, case_answer}
@@ -31,7 +31,7 @@ NoCollision j rows = (t n : ℕ) → In j t n → T (not (collides (rows t n)))
 
 -- clause i is an expectation that the row misses at node n and time t
 pub record MissedAt (j : Job) (x : ℕ) (rows : ℕ → ℕ → Cell) (t n i : ℕ) : Type 0 where
-  pub asks : Asks j expectation x t n i
+  pub asks : Asks j Expectation x t n i
   pub differs : T (not (has (rows t n) (bit (j.clause i).value)))
 
 pub record EmptyAt (j : Job) (rows : ℕ → ℕ → Cell) (t n : ℕ) : Type 0 where
@@ -63,11 +63,11 @@ module _ (j : Job) (x : ℕ) (rows : ℕ → ℕ → Cell) where
 
   missed_e : (t n i : ℕ) → i < j.count → T (miss t n i) → MissedAt j x rows t n i
   missed_e t n i h m =
-      let there : T (asks j expectation x t n (j.clause i)) = and_left (asks j expectation x t n (j.clause i)) _ m in
-      record { asks = record { below = h; there = there }; differs = and_right (asks j expectation x t n (j.clause i)) _ m }
+      let there : T (asks j Expectation x t n (j.clause i)) = and_left (asks j Expectation x t n (j.clause i)) _ m in
+      record { asks = record { below = h; there = there }; differs = and_right (asks j Expectation x t n (j.clause i)) _ m }
 
   missed_i : {t n i : ℕ} → MissedAt j x rows t n i → T (miss t n i)
-  missed_i {t} {n} {i} m = and_both (asks j expectation x t n (j.clause i)) (not (has (rows t n) (bit (j.clause i).value))) m.asks.there m.differs
+  missed_i {t} {n} {i} m = and_both (asks j Expectation x t n (j.clause i)) (not (has (rows t n) (bit (j.clause i).value))) m.asks.there m.differs
 
   -- met at a place: no clause is missed there
   met_e : (t n : ℕ) → met_at j x t n (rows t n) ≡ true → (i : ℕ) → ¬ (MissedAt j x rows t n i)
@@ -113,7 +113,7 @@ module _ (j : Job) (x : ℕ) (rows : ℕ → ℕ → Cell) where
 
   -- what a search over a test finds, in a job's places
   module _ (f : ℕ → ℕ → Bool) where
-    nowhere : first_place f (suc (last_time j)) j.netlist.size ≡ Nowhere → (t n : ℕ) → In j t n → f t n ≡ true
+    nowhere : first_place f (suc (last_time j)) j.netlist.size ≡ None → (t n : ℕ) → In j t n → f t n ≡ true
     nowhere e t n h = nowhere_each f (suc (last_time j)) j.netlist.size e t n (omega arith) h.1
 
     sooner : {t n : ℕ} → FirstPlace f (suc (last_time j)) j.netlist.size t n → (t' n' : ℕ) → In j t' n' → Before t' n' t n → f t' n' ≡ true
@@ -131,14 +131,14 @@ module _ (j : Job) (x : ℕ) (rows : ℕ → ℕ → Cell) where
       met : ℕ → ℕ → Bool
       met t n = met_at j x t n (rows t n)
 
-      free : first_collision j rows ≡ Nowhere → NoCollision j rows
+      free : first_collision j rows ≡ None → NoCollision j rows
       free e t n h = of_true (clear t n) (nowhere clear e t n h)
 
-      go : (a : Place) → first_collision j rows ≡ a → (b : Place) → first_miss j x rows ≡ b → Describes j x rows (answer_at j x rows a b)
-      go (At t n) p b q =
+      go : (a : Option (ℕ × ℕ)) → first_collision j rows ≡ a → (b : Option (ℕ × ℕ)) → first_miss j x rows ≡ b → Describes j x rows (answer_at j x rows a b)
+      go (Some (t, n)) p b q =
           let f = found_at clear (suc (last_time j)) j.netlist.size p in
           record { place = (omega arith, f.in_row); here = of_true (collides (rows t n)) (not-false (collides (rows t n)) f.fails); before = λ t' n' h l. of_true (clear t' n') (sooner clear f t' n' h l) }
-      go Nowhere p (At t n) q =
+      go None p (Some (t, n)) q =
           let f = found_at met (suc (last_time j)) j.netlist.size q in
           record {
             free = free p;
@@ -149,7 +149,7 @@ module _ (j : Job) (x : ℕ) (rows : ℕ → ℕ → Cell) where
             wanted_0 = wanted_0 t n;
             wanted_1 = wanted_1 t n;
           }
-      go Nowhere p Nowhere q = record { free = free p; clean = λ t n h. met_e t n (nowhere met q t n h) }
+      go None p None q = record { free = free p; clean = λ t n h. met_e t n (nowhere met q t n h) }
 
 -- of two places one comes first, or they are one
 data Order (t n t' n' : ℕ) : Type 0 where

@@ -4,7 +4,8 @@ use mathlib.Core.Bool.{Bool, true, false, ◌&&◌}
 use lib.Dec.{T}
 use Rattle.scans.proofs.Bools.{and_left, and_right}
 use Rattle.meaning.specs.Values.{Value, v0, v1, v_x, at_most, ◌⊑◌}
-use Rattle.meaning.specs.Gates.{Gate, INPUT, ZERO, ONE, BUF, NOT, AND, OR, XOR, MUX}
+use Rattle.meaning.specs.declared.Gate.{Gate}
+use Rattle.meaning.specs.declared.Gate.TheVariants.{Input, Zero, One, Buf, Not, And, Or, Xor, Mux}
 
 abbrev pub implies : Bool → Bool → Bool
 implies true b = b
@@ -33,15 +34,15 @@ pub ordered_e : (f : Value → Value → Bool) → T (ordered f) → {a b : Valu
 ordered_e f t {a} {b} h = implies_e (at_most a b) (f a b) (values2_e (λ a b. implies (at_most a b) (f a b)) t a b) h.le
 
 abbrev pub gates : (Gate → Bool) → Bool
-gates f = (f INPUT && (f ZERO && f ONE)) && ((f BUF && (f NOT && f AND)) && (f OR && (f XOR && f MUX)))
+gates f = (f Input && (f Zero && f One)) && ((f Buf && (f Not && f And)) && (f Or && (f Xor && f Mux)))
 
 pub gates_e : (f : Gate → Bool) → T (gates f) → (g : Gate) → T (f g)
-gates_e f t INPUT = search (and_left, and_right)
-gates_e f t ZERO = search (and_left, and_right)
-gates_e f t ONE = search (and_left, and_right)
-gates_e f t BUF = search (and_left, and_right)
-gates_e f t NOT = search (and_left, and_right)
-gates_e f t AND = search (and_left, and_right)
-gates_e f t OR = search (and_left, and_right)
-gates_e f t XOR = search (and_left, and_right)
-gates_e f t MUX = search (and_left, and_right)
+gates_e f t Input = search (and_left, and_right)
+gates_e f t Zero = search (and_left, and_right)
+gates_e f t One = search (and_left, and_right)
+gates_e f t Buf = search (and_left, and_right)
+gates_e f t Not = search (and_left, and_right)
+gates_e f t And = search (and_left, and_right)
+gates_e f t Or = search (and_left, and_right)
+gates_e f t Xor = search (and_left, and_right)
+gates_e f t Mux = search (and_left, and_right)

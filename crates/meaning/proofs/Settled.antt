@@ -10,7 +10,8 @@ use Rattle.meaning.specs.declared.CaseAnswer.{CaseAnswer}
 use Rattle.meaning.specs.declared.CaseAnswer.TheVariants.{Passes, Empty, Fails}
 use Rattle.meaning.specs.Values.{Cell, value, v_x, join_cells, collides, has, bit, cell_number}
 use Rattle.meaning.specs.Gates.{arity}
-use Rattle.meaning.specs.Jobs.{Node, operand, Job, WellFormed}
+use Rattle.meaning.specs.declared.Node.{Node}
+use Rattle.meaning.specs.Jobs.{operand, Job, WellFormed}
 use Rattle.meaning.specs.Rows.{stimulus_at, read_cell, forces_from, forced, cell}
 use Rattle.meaning.specs.Cases.{answer_of, case_answer}
 use Rattle.meaning.proofs.Values.{Free}

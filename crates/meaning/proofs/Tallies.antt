@@ -1,5 +1,6 @@
 -- Tallies and least cases: what a count above 0 means, and how a stretch of cases adds to what came before.
 -- Assumes nothing.
+use Rattle.std.specs.Prelude.{Option, None, Some}
 use mathlib.Core.Path.{◌≡◌, refl, sym, ap}
 use mathlib.Core.Bool.{Bool, true, false, not, cond}
 use Prim.Native.Nat.{ℕ, zero, suc, ◌+◌, ◌≤◌, ◌<◌}
@@ -7,8 +8,6 @@ use native.Mathlib.Nat.{add-suc, add-zero}
 use native.Mathlib.Decide.{dec_lt}
 use native.Mathlib.Omega.{arith}
 use borrow.Author.Tests.{not-true, not-false}
-use Rattle.scans.specs.declared.Scan.{Scan}
-use Rattle.scans.specs.declared.Scan.TheVariants.{Clear, Stopped}
 use Rattle.scans.specs.First.{first_bad}
 use Rattle.scans.proofs.Bools.{both_ways}
 use Rattle.scans.proofs.Search.{below_suc, clear_each, stopped_at, at_stopped}
@@ -59,9 +58,9 @@ pub least_of : (f : ℕ → Bool) (n : ℕ) → 0 < tally f n → Least f n (lea
 unfolding least
 least_of f n h = go (first_bad (λ x. not (f x)) n) refl
   where
-    go : (s : Scan) → first_bad (λ x. not (f x)) n ≡ s → Least f n (or_zero s)
-    go Clear e = absurd (omega (arith, none_tally f n (λ i l. not-true (f i) (clear_each (λ x. not (f x)) n e i l))))
-    go (Stopped x) e =
+    go : (s : Option ℕ) → first_bad (λ x. not (f x)) n ≡ s → Least f n (or_zero s)
+    go None e = absurd (omega (arith, none_tally f n (λ i l. not-true (f i) (clear_each (λ x. not (f x)) n e i l))))
+    go (Some x) e =
         let r = stopped_at (λ x. not (f x)) n e in
         record { below = r.below; here = not-false (f x) r.fails; before = λ y l. not-true (f y) (r.before y l) }
 

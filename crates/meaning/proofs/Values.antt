@@ -4,7 +4,8 @@ use mathlib.Core.Path.{◌≡◌, refl, ap}
 use mathlib.Core.Bool.{Bool, true, false, not}
 use lib.Dec.{T, eqb_refl}
 use Rattle.meaning.specs.Values.{Value, v0, v1, v_x, at_most, ◌⊑◌, Cell, value, collision, join, join_cells, collides, bit, number, same_value, has}
-use Rattle.meaning.specs.Gates.{Gate, gate_forces}
+use Rattle.meaning.specs.declared.Gate.{Gate}
+use Rattle.meaning.specs.Gates.{gate_forces}
 use Rattle.meaning.specs.Rows.{forces_cells}
 use Rattle.meaning.proofs.Everywhere.{implies, implies_e, values, values_e, ordered, ordered_e, gates_e}
 

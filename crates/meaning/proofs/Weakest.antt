@@ -8,7 +8,9 @@ use native.Mathlib.Omega.{arith}
 use lib.Dec.{T, ltb, ltb→lt}
 use Rattle.meaning.specs.Values.{Value, v_x, Cell, value, join_cells}
 use Rattle.meaning.specs.Gates.{arity}
-use Rattle.meaning.specs.Jobs.{Node, operand, stimulus, Job, WellFormed}
+use Rattle.meaning.specs.declared.Node.{Node}
+use Rattle.meaning.specs.declared.Side.TheVariants.{Stimulus}
+use Rattle.meaning.specs.Jobs.{operand, Job, WellFormed}
 use Rattle.meaning.specs.Rows.{stimulus_at, read_cell, forces_from, forced, cell}
 use Rattle.meaning.specs.Runs.{States, read_value, forces, Run, Meets, Meeting, Weakest}
 use Rattle.meaning.proofs.Values.{le_refl, le_of_eq, le_antisym, bit_le, Free, read, free_value, Under, under_read, under_free, under_le, over_read, over_left, over_right, under_both, under_forces}
@@ -79,7 +81,7 @@ module _ (j : Job) (w : WellFormed j) (x last : ℕ) where
               over_read (over_left (stimulus_at j x (suc t) n) (rw f (record { le = (le_refl (forces (j.netlist.node n) (row_states j x t))).le }))) (free (suc t) n l h);
         }
 
-    pub rows_meet : Meets j stimulus x last (row_states j x)
+    pub rows_meet : Meets j Stimulus x last (row_states j x)
     unfolding cell
     rows_meet =
         record { met = λ t n i l a. bit_le (j.clause i).value (over_read (over_right (forced j x t n) (stimulus_over j x t n a)) (free t n l (place_node j a w))) }

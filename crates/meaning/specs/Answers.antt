@@ -1,5 +1,6 @@
 -- The answer for the whole job: three counts over the cases below 2^k, and the case that decides.
 -- Assumes nothing.
+use Rattle.std.specs.Prelude.{Option, None, Some}
 use Rattle.std.specs.Prelude.{Bool, not, cond, ℕ, zero, suc, ◌+◌, ltb}
 use Rattle.meaning.specs.declared.CaseAnswer.{CaseAnswer}
 use Rattle.meaning.specs.declared.CaseAnswer.TheVariants.{Passes, Empty, Fails}
@@ -8,8 +9,6 @@ use Rattle.meaning.specs.declared.JobAnswer.{JobAnswer}
 use Rattle.meaning.specs.declared.JobAnswer.TheVariants.{Holds, Vacant}
 use Rattle.meaning.specs.Jobs.{Job, cases}
 use Rattle.meaning.specs.Cases.{case_answer, is_passes, is_empty, is_fails}
-use Rattle.scans.specs.declared.Scan.{Scan}
-use Rattle.scans.specs.declared.Scan.TheVariants.{Clear, Stopped}
 use Rattle.scans.specs.First.{first_bad}
 
 -- how many of the first n cases pass a test
@@ -18,9 +17,9 @@ tally f zero = 0
 tally f (suc n) = tally f n + cond (f n) 1 0
 
 -- the least of the first n cases that passes it, 0 if none does
-abbrev pub or_zero : Scan → ℕ
-or_zero Clear = 0
-or_zero (Stopped x) = x
+abbrev pub or_zero : Option ℕ → ℕ
+or_zero None = 0
+or_zero (Some x) = x
 
 unfoldable pub least : (ℕ → Bool) → ℕ → ℕ
 least f n = or_zero (first_bad (λ x. not (f x)) n)

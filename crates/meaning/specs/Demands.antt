@@ -6,7 +6,8 @@ use Rattle.meaning.specs.declared.CaseAnswer.TheVariants.{Passes, Empty, Fails}
 use Rattle.meaning.specs.declared.JobAnswer.{JobAnswer}
 use Rattle.meaning.specs.declared.JobAnswer.TheVariants.{Holds, Vacant}
 use Rattle.meaning.specs.Values.{collides, number}
-use Rattle.meaning.specs.Jobs.{expectation, Job, cases, last_time}
+use Rattle.meaning.specs.declared.Side.TheVariants.{Expectation}
+use Rattle.meaning.specs.Jobs.{Job, cases, last_time}
 use Rattle.meaning.specs.Rows.{cell}
 use Rattle.meaning.specs.Runs.{States, Meets, Meeting, MissedBy, Misses, Weakest}
 use Rattle.meaning.specs.Answers.{counts_of}
@@ -14,7 +15,7 @@ use Rattle.meaning.specs.Answers.{counts_of}
 -- some run meets the stimulus, and every such run meets the expectation
 pub record Passing (j : Job) (x : ℕ) : Type 0 where
   pub some : (s : States) × Meeting j x (last_time j) s
-  pub every : (s : States) → Meeting j x (last_time j) s → Meets j expectation x (last_time j) s
+  pub every : (s : States) → Meeting j x (last_time j) s → Meets j Expectation x (last_time j) s
 
 -- a run meets the stimulus and misses the expectation
 pub record Failing (j : Job) (x : ℕ) : Type 0 where

@@ -1,29 +1,28 @@
 -- The nine gates, and what each forces one step later.
 -- Assumes nothing.
 use Rattle.std.specs.Prelude.{cond, List, [], ◌∷◌, ℕ, get_or}
+use Rattle.meaning.specs.declared.Gate.{Gate}
+use Rattle.meaning.specs.declared.Gate.TheVariants.{Input, Zero, One, Buf, Not, And, Or, Xor, Mux}
 use Rattle.meaning.specs.Values.{Value, v0, v1, v_x, same_value}
-
-pub data Gate : Type 0 where
-  INPUT ZERO ONE BUF NOT AND OR XOR MUX : Gate
 
 -- the gates in the order of their codes, 0 to 8
 abbrev pub gates_by_code : List Gate
-gates_by_code = INPUT ∷ ZERO ∷ ONE ∷ BUF ∷ NOT ∷ AND ∷ OR ∷ XOR ∷ MUX ∷ []
+gates_by_code = Input ∷ Zero ∷ One ∷ Buf ∷ Not ∷ And ∷ Or ∷ Xor ∷ Mux ∷ []
 
 abbrev pub gate_of_code : ℕ → Gate
-gate_of_code code = get_or gates_by_code code INPUT
+gate_of_code code = get_or gates_by_code code Input
 
 -- how many of p, q, r a gate has
 abbrev pub arity : Gate → ℕ
-arity INPUT = 0
-arity ZERO = 0
-arity ONE = 0
-arity BUF = 1
-arity NOT = 1
-arity AND = 2
-arity OR = 2
-arity XOR = 2
-arity MUX = 3
+arity Input = 0
+arity Zero = 0
+arity One = 0
+arity Buf = 1
+arity Not = 1
+arity And = 2
+arity Or = 2
+arity Xor = 2
+arity Mux = 3
 
 -- the complement; NOT X is X
 abbrev pub not_of : Value → Value
@@ -65,12 +64,12 @@ mux_of p q r = cond (same_value q r) q (select_of p q r)
 
 -- what a gate forces from the values of p, q and r; those that it lacks are not looked at
 unfoldable pub gate_forces : Gate → Value → Value → Value → Value
-gate_forces INPUT p q r = v_x
-gate_forces ZERO p q r = v0
-gate_forces ONE p q r = v1
-gate_forces BUF p q r = p
-gate_forces NOT p q r = not_of p
-gate_forces AND p q r = and_of p q
-gate_forces OR p q r = or_of p q
-gate_forces XOR p q r = xor_of p q
-gate_forces MUX p q r = mux_of p q r
+gate_forces Input p q r = v_x
+gate_forces Zero p q r = v0
+gate_forces One p q r = v1
+gate_forces Buf p q r = p
+gate_forces Not p q r = not_of p
+gate_forces And p q r = and_of p q
+gate_forces Or p q r = or_of p q
+gate_forces Xor p q r = xor_of p q
+gate_forces Mux p q r = mux_of p q r

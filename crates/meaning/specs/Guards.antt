@@ -2,27 +2,22 @@
 -- Assumes nothing.
 use Rattle.std.specs.Prelude.{Bool, true, false, not, ◌&&◌, ◌||◌, List, [], ◌∷◌, ◌++◌, ℕ, zero, suc, ◌/◌, ◌%◌, ◌^◌, eqb, get_or}
 use Rattle.std.specs.Bool.{xor}
+use Rattle.meaning.specs.declared.Expression.{Expression}
+use Rattle.meaning.specs.declared.Expression.TheVariants.{False, True, Variable, Not, And, Or, Xor}
 
 -- variable i of a case is bit i of its number
 unfoldable pub bit_of : ℕ → ℕ → Bool
 bit_of x i = eqb (x / 2 ^ i % 2) 1
 
--- from NOT on the operands are earlier expressions, by their place in the list
-pub data Expression : Type 0 where
-  FALSE TRUE : Expression
-  VARIABLE : ℕ → Expression
-  NOT : ℕ → Expression
-  AND OR XOR : ℕ → ℕ → Expression
-
 -- the truth of an expression in case x, given that of the earlier ones
 unfoldable pub truth_given : ℕ → List Bool → Expression → Bool
-truth_given x earlier FALSE = false
-truth_given x earlier TRUE = true
-truth_given x earlier (VARIABLE a) = bit_of x a
-truth_given x earlier (NOT a) = not (get_or earlier a false)
-truth_given x earlier (AND a b) = get_or earlier a false && get_or earlier b false
-truth_given x earlier (OR a b) = get_or earlier a false || get_or earlier b false
-truth_given x earlier (XOR a b) = xor (get_or earlier a false) (get_or earlier b false)
+truth_given x earlier False = false
+truth_given x earlier True = true
+truth_given x earlier (Variable a) = bit_of x a
+truth_given x earlier (Not a) = not (get_or earlier a false)
+truth_given x earlier (And a b) = get_or earlier a false && get_or earlier b false
+truth_given x earlier (Or a b) = get_or earlier a false || get_or earlier b false
+truth_given x earlier (Xor a b) = xor (get_or earlier a false) (get_or earlier b false)
 
 -- the truths of the first i expressions
 unfoldable pub truths : (ℕ → Expression) → ℕ → ℕ → List Bool

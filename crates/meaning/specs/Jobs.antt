@@ -1,14 +1,14 @@
 -- A job: a netlist, guards over k variables, and clauses on two sides.
 -- Assumes nothing.
 use Rattle.std.specs.Prelude.{Bool, true, false, ◌&&◌, ℕ, zero, suc, ◌<◌, ◌^◌, max, T, eqb}
-use Rattle.meaning.specs.Gates.{Gate, arity}
-use Rattle.meaning.specs.Guards.{Expression, truth}
-
-pub record Node : Type 0 where
-  pub gate : Gate
-  pub p : ℕ
-  pub q : ℕ
-  pub r : ℕ
+use Rattle.meaning.specs.declared.Gate.{Gate}
+use Rattle.meaning.specs.declared.Node.{Node}
+use Rattle.meaning.specs.declared.Side.{Side}
+use Rattle.meaning.specs.declared.Side.TheVariants.{Stimulus, Expectation}
+use Rattle.meaning.specs.declared.Clause.{Clause}
+use Rattle.meaning.specs.Gates.{arity}
+use Rattle.meaning.specs.declared.Expression.{Expression}
+use Rattle.meaning.specs.Guards.{truth}
 
 -- a node's operands by their place: 0 is p, 1 is q, 2 is r
 abbrev pub operand : Node → ℕ → ℕ
@@ -20,22 +20,11 @@ pub record Netlist : Type 0 where
   pub size : ℕ
   pub node : ℕ → Node
 
-pub data Side : Type 0 where
-  stimulus expectation : Side
-
 abbrev pub same_side : Side → Side → Bool
-same_side stimulus stimulus = true
-same_side stimulus expectation = false
-same_side expectation stimulus = false
-same_side expectation expectation = true
-
--- at its time, where its guard is true, its node has its value
-pub record Clause : Type 0 where
-  pub side : Side
-  pub value : Bool
-  pub node : ℕ
-  pub time : ℕ
-  pub guard : ℕ
+same_side Stimulus Stimulus = true
+same_side Stimulus Expectation = false
+same_side Expectation Stimulus = false
+same_side Expectation Expectation = true
 
 -- the times of a clause, and the last of them
 unfoldable pub on : Clause → ℕ → Bool

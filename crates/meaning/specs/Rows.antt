@@ -2,13 +2,17 @@
 -- Assumes nothing.
 use Rattle.std.specs.Prelude.{Bool, not, cond, List, [], ◌∷◌, ◌++◌, ℕ, zero, suc, ltb}
 use Rattle.meaning.specs.Values.{v_x, Cell, value, collision, join_cells, collides, bit, cell_number}
-use Rattle.meaning.specs.Gates.{Gate, arity, gate_forces}
-use Rattle.meaning.specs.Jobs.{Node, operand, stimulus, Clause, Job, asks}
+use Rattle.meaning.specs.declared.Gate.{Gate}
+use Rattle.meaning.specs.Gates.{arity, gate_forces}
+use Rattle.meaning.specs.declared.Node.{Node}
+use Rattle.meaning.specs.declared.Clause.{Clause}
+use Rattle.meaning.specs.declared.Side.TheVariants.{Stimulus}
+use Rattle.meaning.specs.Jobs.{operand, Job, asks}
 use Rattle.scans.specs.First.{each}
 
 -- what clause c asks of node n at time t in case x: its value if it is stimulus and speaks there
 abbrev pub asked : Job → ℕ → ℕ → ℕ → Clause → Cell
-asked j x t n c = value (cond (asks j stimulus x t n c) (bit c.value) v_x)
+asked j x t n c = value (cond (asks j Stimulus x t n c) (bit c.value) v_x)
 
 -- what the first i clauses ask there, joined
 unfoldable pub asked_by : Job → ℕ → ℕ → ℕ → ℕ → Cell

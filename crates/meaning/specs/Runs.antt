@@ -3,7 +3,10 @@
 use Rattle.std.specs.Prelude.{◌≡◌, ◌≢◌, cond, ℕ, suc, ◌≤◌, ◌<◌, ltb}
 use Rattle.meaning.specs.Values.{Value, v_x, ◌⊑◌, bit}
 use Rattle.meaning.specs.Gates.{arity, gate_forces}
-use Rattle.meaning.specs.Jobs.{Node, operand, Netlist, Side, stimulus, expectation, Job, Asks, last_time}
+use Rattle.meaning.specs.declared.Node.{Node}
+use Rattle.meaning.specs.declared.Side.{Side}
+use Rattle.meaning.specs.declared.Side.TheVariants.{Stimulus, Expectation}
+use Rattle.meaning.specs.Jobs.{operand, Netlist, Job, Asks, last_time}
 
 -- a series of states: at each time, a value for each node
 abbrev pub States : Type 0
@@ -27,11 +30,11 @@ pub record Meets (j : Job) (side : Side) (x last : ℕ) (s : States) : Type 0 wh
 -- a run that meets the stimulus
 pub record Meeting (j : Job) (x last : ℕ) (s : States) : Type 0 where
   pub run : Run j.netlist last s
-  pub meets : Meets j stimulus x last s
+  pub meets : Meets j Stimulus x last s
 
 -- clause i asks for another value at node n and time t than s has there
 pub record MissedBy (j : Job) (x : ℕ) (s : States) (t n i : ℕ) : Type 0 where
-  pub asks : Asks j expectation x t n i
+  pub asks : Asks j Expectation x t n i
   pub differs : s t n ≢ bit (j.clause i).value
 
 -- s misses the expectation somewhere up to the job's last time

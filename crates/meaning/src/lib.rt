@@ -1,6 +1,58 @@
-// What a case is answered. Values are numbers here: 0, 1, and 2 for X.
+// A job's parts, and what a case and a whole job are answered. What they mean stands in specs/.
 #![tactic(auto)]
 
+// The gates, in the order of their codes.
+#[derive(Clone, Copy, PartialEq, Eq)]
+pub enum Gate {
+    Input,
+    Zero,
+    One,
+    Buf,
+    Not,
+    And,
+    Or,
+    Xor,
+    Mux,
+}
+
+// A gate and the nodes of its operands; one that the gate lacks is not looked at.
+#[derive(Clone, Copy)]
+pub struct Node {
+    pub gate: Gate,
+    pub p: usize,
+    pub q: usize,
+    pub r: usize,
+}
+
+// A guard over the variables. From Not on, the operands are earlier expressions, by their place in the list.
+#[derive(Clone, Copy)]
+pub enum Expression {
+    False,
+    True,
+    Variable(usize),
+    Not(usize),
+    And(usize, usize),
+    Or(usize, usize),
+    Xor(usize, usize),
+}
+
+#[derive(Clone, Copy, PartialEq, Eq)]
+pub enum Side {
+    Stimulus,
+    Expectation,
+}
+
+// At its time, where its guard is true, its node has its value.
+#[derive(Clone, Copy)]
+pub struct Clause {
+    pub side: Side,
+    pub value: bool,
+    pub node: usize,
+    pub time: usize,
+    pub guard: usize,
+}
+
+// What a case is answered. Values are numbers here: 0, 1, and 2 for X.
 #[derive(Clone, Copy)]
 pub enum CaseAnswer {
     Passes,

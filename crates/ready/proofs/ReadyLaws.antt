@@ -1,5 +1,6 @@
 -- What unpacking into enough room answers is what reading answers; and records decoded from a longer list are the same records.
 -- Assumes nothing.
+use Rattle.std.specs.Prelude.{Result, Ok, Err}
 use mathlib.Core.Path.{◌≡◌, refl, sym, ◌∙◌, ap, subst}
 use mathlib.Core.Logic.{◌⊎◌, inl, inr}
 use mathlib.Core.Bool.{true}
@@ -15,8 +16,6 @@ use Rattle.scans.proofs.Exactly.{in_order_append, skip_whole}
 use Rattle.meaning.specs.Stated.{Stated}
 use Rattle.stored.specs.declared.Size.{Size}
 use Rattle.stored.specs.declared.Refusal.{Refusal}
-use Rattle.stored.specs.declared.Read.{Read}
-use Rattle.stored.specs.declared.Read.TheVariants.{Accepted, Refused}
 use Rattle.stored.specs.Bytes.{byte_at, Bytes}
 use Rattle.stored.specs.Layout.{sizes_of, header_sizes, records_of}
 use Rattle.stored.specs.Reading.{read_stages, refused, accepted_as, read_answer, room_ok, unpack_answer, lent, stated_read}
@@ -84,12 +83,12 @@ module _ (records before : List ℕ) (z : Size) (m room : ℕ) (long : length re
       (q ∙ ap (λ l. l ++ drop m (replicate room 0)) (ap (λ s. list_of (record_word s) m) after_is ∙ list_of_same _ _ m (λ i l. word_front records (drop (length records) before) m i long l)))
 
 -- the whole job, with what the calls gave
-module _ {job ns es cs ns' es' cs' : List ℕ} {r : Read} (u : Unpacks job ns es cs ns' es' cs' r) (bytes : Bytes job)
+module _ {job ns es cs ns' es' cs' : List ℕ} {r : Result Size Refusal} (u : Unpacks job ns es cs ns' es' cs' r) (bytes : Bytes job)
     (ln : length ns ≡ 8064) (le : length es ≡ 4032) (lc : length cs ≡ 4032) where
   pub read_is : stated_read r ≡ read_answer job
   read_is = u.answer ∙ rw (ln, le, lc) (unpack_reads job)
 
-  module _ {z : Size} (accepts : r ≡ Accepted z) where
+  module _ {z : Size} (accepts : r ≡ Ok z) where
     pub accepts_is : read_answer job ≡ accepted_as z
     accepts_is = sym read_is ∙ ap stated_read accepts
 
@@ -134,8 +133,8 @@ module _ {job ns es cs ns' es' cs' : List ℕ} {r : Read} (u : Unpacks job ns es
 
 -- the two answers
 module _ {job nodes expressions clauses heads nexts : List ℕ} where
-  pub ready_refused : {x : Refusal} → stated_read (Refused x) ≡ read_answer job → Readied job nodes expressions clauses heads nexts (Refused x)
+  pub ready_refused : {x : Refusal} → stated_read (Err x) ≡ read_answer job → Readied job nodes expressions clauses heads nexts (Err x)
   ready_refused {x} e = record { answer = e; lists = λ z q. absurd (refused_done x.number x.block x.«record» (ap stated_read q)) }
 
-  pub ready_accepted : {z : Size} → stated_read (Accepted z) ≡ read_answer job → Ready job z nodes expressions clauses heads nexts → Readied job nodes expressions clauses heads nexts (Accepted z)
+  pub ready_accepted : {z : Size} → stated_read (Ok z) ≡ read_answer job → Ready job z nodes expressions clauses heads nexts → Readied job nodes expressions clauses heads nexts (Ok z)
   ready_accepted {z} e r = record { answer = e; lists = λ y q. let same : z ≡ y = cc in subst (λ z. Ready job z nodes expressions clauses heads nexts) same r }

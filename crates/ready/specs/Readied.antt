@@ -1,9 +1,9 @@
 -- A job made ready to run: what its decoded lists hold.
 -- Assumes nothing.
+use Rattle.std.specs.Prelude.{Result, Ok}
+use Rattle.stored.specs.declared.Refusal.{Refusal}
 use Rattle.std.specs.Prelude.{◌≡◌, List, ℕ, get_or}
 use Rattle.stored.specs.declared.Size.{Size}
-use Rattle.stored.specs.declared.Read.{Read}
-use Rattle.stored.specs.declared.Read.TheVariants.{Accepted}
 use Rattle.stored.specs.Layout.{records_of}
 use Rattle.stored.specs.Reading.{accepted_as, read_answer, stated_read}
 use Rattle.stored.specs.Decoding.{job_of}
@@ -18,6 +18,6 @@ pub record Ready (job : List ℕ) (z : Size) (nodes expressions clauses heads ne
   pub chained : Chained (λ i. clause_of (get_or clauses i 0)) z.c 0 heads nexts
 
 -- reading's own answer; and where it accepts, the lists are ready
-pub record Readied (job nodes expressions clauses heads nexts : List ℕ) (r : Read) : Type 0 where
+pub record Readied (job nodes expressions clauses heads nexts : List ℕ) (r : Result Size Refusal) : Type 0 where
   pub answer : stated_read r ≡ read_answer job
-  pub lists : (z : Size) → r ≡ Accepted z → Ready job z nodes expressions clauses heads nexts
+  pub lists : (z : Size) → r ≡ Ok z → Ready job z nodes expressions clauses heads nexts

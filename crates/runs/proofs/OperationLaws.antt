@@ -1,5 +1,7 @@
 -- Each operation after reading: what reading refuses is refused, and otherwise the rest of its table decides.
 -- Assumes nothing.
+use Rattle.std.specs.Prelude.{Result, Ok, Err}
+use Rattle.meaning.specs.declared.CaseAnswer.{CaseAnswer}
 use mathlib.Core.Path.{◌≡◌, refl, sym, ◌∙◌, ap, subst}
 use mathlib.Core.Bool.{Bool, true, false, not}
 use mathlib.Core.List.{List, [], ◌∷◌, ◌++◌}
@@ -20,15 +22,10 @@ use Rattle.meaning.specs.Answers.{job_answer}
 use Rattle.meaning.specs.Stated.{Stated, stated_case, stated_job}
 use Rattle.stored.specs.declared.Size.{Size}
 use Rattle.stored.specs.declared.Refusal.{Refusal}
-use Rattle.stored.specs.declared.Read.{Read}
-use Rattle.stored.specs.declared.Read.TheVariants.{Accepted, Refused}
 use Rattle.stored.specs.Layout.{header_sizes}
 use Rattle.stored.specs.Reading.{refused, accepted_as, read_answer, lent, stated_read}
 use Rattle.stored.specs.Packing.{written}
 use Rattle.stored.proofs.Accepted.{refused_done, accepted_sizes}
-use Rattle.verdicts.specs.declared.Checked.{Checked}
-use Rattle.verdicts.specs.declared.CaseChecked.{CaseChecked}
-use Rattle.verdicts.specs.declared.RowAsked.{RowAsked}
 use Rattle.verdicts.specs.Running.{job_in, check_stages, check_answer, case_stages, one_case_answer, row_answer, stated_checked, stated_case_checked, stated_row, GivesRow}
 use Rattle.ready.specs.Readied.{Ready, Readied}
 use Rattle.runs.specs.Steps.{Runnable, job_of_lists, case_from11, row_from12, row_answer_from11, GivesRowFrom11}
@@ -57,25 +54,25 @@ module _ (s : List ℕ) where
       ∙ ap (in_order refused (check_stages s)) (sym (in_order_append refused (case_from11 z x) (row_from12 (job_in s) z x t room) (written z.n)))
 
 -- a job that reading refuses, with what making it ready gave
-module _ {job nodes expressions clauses heads nexts : List ℕ} {r : Read} {y : Refusal} (readied : Readied job nodes expressions clauses heads nexts r) (q : r ≡ Refused y) where
+module _ {job nodes expressions clauses heads nexts : List ℕ} {r : Result Size Refusal} {y : Refusal} (readied : Readied job nodes expressions clauses heads nexts r) (q : r ≡ Err y) where
   reads : read_answer job ≡ refused y.number y.block y.«record»
   reads = sym readied.answer ∙ ap stated_read q
 
-  pub check_refuses : stated_checked (Checked.Refused y) ≡ check_answer job
+  pub check_refuses : stated_checked (Err y) ≡ check_answer job
   unfolding check_answer
   check_refuses = sym (refused_by job reads _)
 
-  pub case_refuses : (x : ℕ) → stated_case_checked (CaseChecked.Refused y) ≡ one_case_answer job x
+  pub case_refuses : (x : ℕ) → stated_case_checked (Err y) ≡ one_case_answer job x
   case_refuses x = sym (case_cut job x ∙ refused_by job reads _)
 
-  pub row_refuses : (x t : ℕ) (out : List ℕ) → GivesRow job x t out out (RowAsked.Refused y)
+  pub row_refuses : (x t : ℕ) (out : List ℕ) → GivesRow job x t out out (Err y)
   unfolding lent
   row_refuses x t out =
       let e = row_cut job x t (length out) ∙ refused_by job reads _ in
       record { answer = sym e; out_is = rw e }
 
 -- a job that reading accepts
-module _ {job nodes expressions clauses heads nexts : List ℕ} {r : Read} {z : Size} (readied : Readied job nodes expressions clauses heads nexts r) (q : r ≡ Accepted z) where
+module _ {job nodes expressions clauses heads nexts : List ℕ} {r : Result Size Refusal} {z : Size} (readied : Readied job nodes expressions clauses heads nexts r) (q : r ≡ Ok z) where
   ready : Ready job z nodes expressions clauses heads nexts
   ready = readied.lists z q
 
@@ -85,18 +82,18 @@ module _ {job nodes expressions clauses heads nexts : List ℕ} {r : Read} {z : 
   sizes_are : z ≡ header_sizes job
   sizes_are = accepted_sizes job z ready.read
 
-  pub check_answers : {a : JobAnswer} → a ≡ job_answer (job_of_lists z nodes expressions clauses) → stated_checked (Checked.Answered a) ≡ check_answer job
+  pub check_answers : {a : JobAnswer} → a ≡ job_answer (job_of_lists z nodes expressions clauses) → stated_checked (Ok a) ≡ check_answer job
   unfolding check_answer
   check_answers e = ap stated_job (e ∙ ap job_answer ready.means) ∙ sym (passed_by job ready.read _)
 
-  pub case_answers : (c : CaseChecked) (x : ℕ) → stated_case_checked c ≡ in_order refused (case_from11 z x) (stated_case (case_answer (job_of_lists z nodes expressions clauses) x)) → stated_case_checked c ≡ one_case_answer job x
+  pub case_answers : (c : Result CaseAnswer Refusal) (x : ℕ) → stated_case_checked c ≡ in_order refused (case_from11 z x) (stated_case (case_answer (job_of_lists z nodes expressions clauses) x)) → stated_case_checked c ≡ one_case_answer job x
   case_answers c x e =
       e
       ∙ ap (λ j. in_order refused (case_from11 z x) (stated_case (case_answer j x))) ready.means
       ∙ ap (λ y. in_order refused (case_from11 y x) (stated_case (case_answer (job_in job) x))) sizes_are
       ∙ sym (case_cut job x ∙ passed_by job ready.read _)
 
-  pub row_answers : {c : RowAsked} {x t : ℕ} {out out' : List ℕ} → GivesRowFrom11 (job_of_lists z nodes expressions clauses) z x t out out' c → GivesRow job x t out out' c
+  pub row_answers : {c : Result ℕ Refusal} {x t : ℕ} {out out' : List ℕ} → GivesRowFrom11 (job_of_lists z nodes expressions clauses) z x t out out' c → GivesRow job x t out out' c
   row_answers {x = x} {t} {out} g =
       let e : row_answer_from11 (job_of_lists z nodes expressions clauses) z x t (length out) ≡ row_answer job x t (length out) =
       ap (λ j. row_answer_from11 j z x t (length out)) ready.means
@@ -128,11 +125,11 @@ row_length j x t (suc n) = length-append (row_numbers j x t n) _ ∙ omega (arit
 
 -- the table of a row from 11 on, test by test
 module _ (j : Job) (z : Size) (x t : ℕ) (out : List ℕ) where
-  kept : {r : RowAsked} {number : ℕ} → stated_row r ≡ refused number 0 0 → refused number 0 0 ≡ row_answer_from11 j z x t (length out) → GivesRowFrom11 j z x t out out r
+  kept : {r : Result ℕ Refusal} {number : ℕ} → stated_row r ≡ refused number 0 0 → refused number 0 0 ≡ row_answer_from11 j z x t (length out) → GivesRowFrom11 j z x t out out r
   unfolding lent
   kept p e = record { answer = p ∙ e; out_is = rw (← e) }
 
-  pub row_11 : {cases : ℕ} {r : RowAsked} → cases ≡ 2 ^ z.k → cases ≤ x → stated_row r ≡ refused 11 0 0 → GivesRowFrom11 j z x t out out r
+  pub row_11 : {cases : ℕ} {r : Result ℕ Refusal} → cases ≡ 2 ^ z.k → cases ≤ x → stated_row r ≡ refused 11 0 0 → GivesRowFrom11 j z x t out out r
   unfolding row_answer_from11
   row_11 e h p = kept p (on_failed refused _ (written z.n) 11 {t = false} (sym (le-ltb x (2 ^ z.k) (omega (arith, e)))) refl refl)
 
@@ -141,24 +138,24 @@ module _ (j : Job) (z : Size) (x t : ℕ) (out : List ℕ) where
     unfolding row_answer_from11
     past_11 p = on_passed refused _ (written z.n) 11 {t = true} (sym (lt-ltb x (2 ^ z.k) (omega (arith, e)))) refl p
 
-    pub row_12 : {r : RowAsked} → 255 < t → stated_row r ≡ refused 12 0 0 → GivesRowFrom11 j z x t out out r
+    pub row_12 : {r : Result ℕ Refusal} → 255 < t → stated_row r ≡ refused 12 0 0 → GivesRowFrom11 j z x t out out r
     row_12 h p = kept p (past_11 (on_failed refused _ (written z.n) 12 {t = false} (sym (lt-leb t 255 h)) refl refl))
 
     module _ (timely : t ≤ 255) where
       past_12 : {a : Stated} → a ≡ in_order refused (whole 13 (leb z.n (length out)) ∷ whole 14 (each (row_clear j x) (suc t)) ∷ []) (written z.n) → a ≡ row_answer_from11 j z x t (length out)
       past_12 p = past_11 (on_passed refused _ (written z.n) 12 {t = true} (sym (le-leb t 255 timely)) refl p)
 
-      pub row_13 : {r : RowAsked} → length out < z.n → stated_row r ≡ refused 13 0 0 → GivesRowFrom11 j z x t out out r
+      pub row_13 : {r : Result ℕ Refusal} → length out < z.n → stated_row r ≡ refused 13 0 0 → GivesRowFrom11 j z x t out out r
       row_13 h p = kept p (past_12 (on_failed refused _ (written z.n) 13 {t = false} (sym (lt-leb z.n (length out) h)) refl refl))
 
       module _ (room : z.n ≤ length out) where
         past_13 : {a : Stated} → a ≡ in_order refused (whole 14 (each (row_clear j x) (suc t)) ∷ []) (written z.n) → a ≡ row_answer_from11 j z x t (length out)
         past_13 p = past_12 (on_passed refused _ (written z.n) 13 {t = true} (sym (le-leb z.n (length out) room)) refl p)
 
-        pub row_14 : {r : RowAsked} {b : Bool} {out' : List ℕ} → b ≡ each (row_clear j x) (suc t) → not b ≡ true → out' ≡ out → stated_row r ≡ refused 14 0 0 → GivesRowFrom11 j z x t out out' r
+        pub row_14 : {r : Result ℕ Refusal} {b : Bool} {out' : List ℕ} → b ≡ each (row_clear j x) (suc t) → not b ≡ true → out' ≡ out → stated_row r ≡ refused 14 0 0 → GivesRowFrom11 j z x t out out' r
         row_14 {r} d h same p = subst (λ o. GivesRowFrom11 j z x t out o r) (sym same) (kept p (past_13 (on_failed refused [] (written z.n) 14 d h refl)))
 
-        pub row_given : {r : RowAsked} {b : Bool} {out' : List ℕ} → b ≡ each (row_clear j x) (suc t) → not b ≡ false → out' ≡ row_numbers j x t z.n ++ drop z.n out → stated_row r ≡ written z.n → GivesRowFrom11 j z x t out out' r
+        pub row_given : {r : Result ℕ Refusal} {b : Bool} {out' : List ℕ} → b ≡ each (row_clear j x) (suc t) → not b ≡ false → out' ≡ row_numbers j x t z.n ++ drop z.n out → stated_row r ≡ written z.n → GivesRowFrom11 j z x t out out' r
         unfolding lent
         row_given d h is p =
             let a = past_13 (on_passed refused [] (written z.n) 14 d h (on_end refused (written z.n) refl)) in

@@ -1,5 +1,7 @@
 -- What the inner functions promise: the tables of one case and of row from 11 on, for a job that reading has accepted.
 -- Assumes nothing.
+use Rattle.std.specs.Prelude.{Result}
+use Rattle.stored.specs.declared.Refusal.{Refusal}
 use Rattle.std.specs.Prelude.{◌≡◌, List, [], ◌∷◌, ℕ, suc, ◌^◌, ltb, leb, length, get_or}
 use Rattle.scans.specs.First.{each}
 use Rattle.scans.specs.Refusals.{Stage, whole, in_order}
@@ -11,7 +13,6 @@ use Rattle.stored.specs.Reading.{refused, lent}
 use Rattle.stored.specs.Packing.{written}
 use Rattle.decoded.specs.Fields.{clause_of, job_from, Decoded}
 use Rattle.decoded.specs.Chains.{Chained}
-use Rattle.verdicts.specs.declared.RowAsked.{RowAsked}
 use Rattle.verdicts.specs.Running.{stated_row}
 
 -- decoded lists that may be run
@@ -33,6 +34,6 @@ unfoldable pub row_answer_from11 : Job → Size → ℕ → ℕ → ℕ → Stat
 row_answer_from11 j z x t room = in_order refused (whole 11 (ltb x (2 ^ z.k)) ∷ row_from12 j z x t room) (written z.n)
 
 -- a row of such a job
-pub record GivesRowFrom11 (j : Job) (z : Size) (x t : ℕ) (out out' : List ℕ) (r : RowAsked) : Type 0 where
+pub record GivesRowFrom11 (j : Job) (z : Size) (x t : ℕ) (out out' : List ℕ) (r : Result ℕ Refusal) : Type 0 where
   pub answer : stated_row r ≡ row_answer_from11 j z x t (length out)
   pub out_is : out' ≡ lent (row_answer_from11 j z x t (length out)) (row_numbers j x t z.n) out

@@ -1,6 +1,7 @@
 -- Refusals in their order, said without the order of the code: the way back from an answer to the tests that were passed,
 -- and that the table refuses exactly at the lowest place of the lowest number whose condition holds, and otherwise accepts.
 -- Assumes nothing.
+use Rattle.std.specs.Prelude.{Option, None, Some}
 use mathlib.Core.Path.{◌≡◌, refl, sym, ap, subst, subst₃}
 use mathlib.Core.Logic.{inl, inr, ◌↔◌}
 use mathlib.Core.Bool.{Bool, true, false}
@@ -8,8 +9,6 @@ use mathlib.Core.List.{List, [], ◌∷◌, ◌++◌}
 use native.Mathlib.Decide.{dec_lt}
 use native.Mathlib.Omega.{arith}
 use Prim.Native.Nat.{ℕ, ◌<◌}
-use Rattle.scans.specs.declared.Scan.{Scan}
-use Rattle.scans.specs.declared.Scan.TheVariants.{Clear, Stopped}
 use Rattle.scans.specs.First.{first_bad, FirstBad}
 use Rattle.scans.specs.Refusals.{Stage, whole, unless_at, in_order, WrongAt, Wrong, Lower, Refuses, Rising}
 use Rattle.scans.proofs.Bools.{both_ways}
@@ -23,16 +22,16 @@ in_order_append refused (x ∷ xs) ys answer = rw (in_order_append refused xs ys
 
 module _ {A : Type 0} (refused : ℕ → ℕ → ℕ → A) (st : Stage) (rest : List Stage) (answer : A) where
   -- an answer that is no refusal of this stage: it passed at each index, and the answer is that of the rest
-  pub past : {r : A} → ((b s : ℕ) → refused st.number b s ≡ r → ⊥) → in_order refused (st ∷ rest) answer ≡ r → (first_bad st.ok st.count ≡ Clear) × (in_order refused rest answer ≡ r)
+  pub past : {r : A} → ((b s : ℕ) → refused st.number b s ≡ r → ⊥) → in_order refused (st ∷ rest) answer ≡ r → (first_bad st.ok st.count ≡ None) × (in_order refused rest answer ≡ r)
   unfolding in_order unless_at
   past {r} h e = go (first_bad st.ok st.count) refl e
     where
-      go : (x : Scan) → first_bad st.ok st.count ≡ x → unless_at x (λ i. refused st.number (st.block i) (st.slot i)) (in_order refused rest answer) ≡ r → (first_bad st.ok st.count ≡ Clear) × (in_order refused rest answer ≡ r)
-      go Clear p q = (p, q)
-      go (Stopped i) p q = absurd (h (st.block i) (st.slot i) q)
+      go : (x : Option ℕ) → first_bad st.ok st.count ≡ x → unless_at x (λ i. refused st.number (st.block i) (st.slot i)) (in_order refused rest answer) ≡ r → (first_bad st.ok st.count ≡ None) × (in_order refused rest answer ≡ r)
+      go None p q = (p, q)
+      go (Some i) p q = absurd (h (st.block i) (st.slot i) q)
 
   -- a stage that passes at each index is skipped
-  pub skip : first_bad st.ok st.count ≡ Clear → in_order refused (st ∷ rest) answer ≡ in_order refused rest answer
+  pub skip : first_bad st.ok st.count ≡ None → in_order refused (st ∷ rest) answer ≡ in_order refused rest answer
   unfolding in_order unless_at
   skip e = rw e
 
@@ -53,7 +52,7 @@ module _ {A : Type 0} (refused : ℕ → ℕ → ℕ → A) (number : ℕ) (x : 
   skip_whole e = skip refused (whole number x) rest answer (each_clear (λ _. x) 1 (λ _ _. e))
 
 -- a stage that passes at each index is wrong nowhere
-not_wrong : (st : Stage) {block slot : ℕ} → first_bad st.ok st.count ≡ Clear → ¬ (WrongAt st block slot)
+not_wrong : (st : Stage) {block slot : ℕ} → first_bad st.ok st.count ≡ None → ¬ (WrongAt st block slot)
 not_wrong st e w = both_ways (clear_each st.ok st.count e w.at w.below) w.fails
 
 -- where a stage stops it is wrong
@@ -86,7 +85,7 @@ module _ (st : Stage) (rest : List Stage) where
       none_before m b s h (inr w) = let g = above rest st.number m b s r.2 w in omega arith
 
   -- or it passes, and the rest refuses
-  refuses_later : {number block slot : ℕ} → first_bad st.ok st.count ≡ Clear → Refuses rest number block slot → Refuses (st ∷ rest) number block slot
+  refuses_later : {number block slot : ℕ} → first_bad st.ok st.count ≡ None → Refuses rest number block slot → Refuses (st ∷ rest) number block slot
   refuses_later {number} e r = record { wrong = inr r.wrong; lowest = λ b s l. still number b s (r.lowest b s l); first = λ m b s h. still m b s (r.first m b s h) }
     where
       still : (m b s : ℕ) → ¬ (Wrong rest m b s) → ¬ (Wrong (st ∷ rest) m b s)
@@ -126,10 +125,10 @@ unfolding in_order unless_at
 outcome refused answer [] = accepts refl
 outcome refused answer (st ∷ rest) = go (first_bad st.ok st.count) refl (outcome refused answer rest)
   where
-    go : (x : Scan) → first_bad st.ok st.count ≡ x → Outcome refused answer rest → Outcome refused answer (st ∷ rest)
-    go Clear p (accepts e) = accepts (rw p e)
-    go Clear p (stops m b s e w) = stops m b s (rw p e) (inr w)
-    go (Stopped i) p o = stops st.number (st.block i) (st.slot i) (rw p) (inl (refl, wrong_at st (stopped_at st.ok st.count p)))
+    go : (x : Option ℕ) → first_bad st.ok st.count ≡ x → Outcome refused answer rest → Outcome refused answer (st ∷ rest)
+    go None p (accepts e) = accepts (rw p e)
+    go None p (stops m b s e w) = stops m b s (rw p e) (inr w)
+    go (Some i) p o = stops st.number (st.block i) (st.slot i) (rw p) (inl (refl, wrong_at st (stopped_at st.ok st.count p)))
 
 -- where refusals of different numbers or places differ, and none is the last answer
 module _ {A : Type 0} (refused : ℕ → ℕ → ℕ → A) (answer : A) (one : (m b s m' b' s' : ℕ) → refused m b s ≡ refused m' b' s' → (m ≡ m') × (b ≡ b') × (s ≡ s')) (apart : (m b s : ℕ) → refused m b s ≡ answer → ⊥) where
@@ -139,9 +138,9 @@ module _ {A : Type 0} (refused : ℕ → ℕ → ℕ → A) (answer : A) (one : 
   refuses [] lowest r m b s e = absurd (apart m b s (sym e))
   refuses (st ∷ rest) lowest r m b s e = go (first_bad st.ok st.count) refl e (refuses rest st.number r.2 m b s)
     where
-      go : (x : Scan) → first_bad st.ok st.count ≡ x → unless_at x (λ i. refused st.number (st.block i) (st.slot i)) (in_order refused rest answer) ≡ refused m b s → (in_order refused rest answer ≡ refused m b s → Refuses rest m b s) → Refuses (st ∷ rest) m b s
-      go Clear p q ih = refuses_later st rest p (ih q)
-      go (Stopped i) p q ih =
+      go : (x : Option ℕ) → first_bad st.ok st.count ≡ x → unless_at x (λ i. refused st.number (st.block i) (st.slot i)) (in_order refused rest answer) ≡ refused m b s → (in_order refused rest answer ≡ refused m b s → Refuses rest m b s) → Refuses (st ∷ rest) m b s
+      go None p q ih = refuses_later st rest p (ih q)
+      go (Some i) p q ih =
           let same = one st.number (st.block i) (st.slot i) m b s q in
           subst₃ (Refuses (st ∷ rest)) same.0 same.1 same.2 (refuses_here st rest lowest r (stopped_at st.ok st.count p))
 
@@ -174,20 +173,20 @@ module _ {A : Type 0} (refused : ℕ → ℕ → ℕ → A) where
   refused_still [] apart e next = absurd (apart e)
   refused_still (st ∷ rest) {a} {r} apart e next = go (first_bad st.ok st.count) e (refused_still rest {a = a} {r = r} apart)
     where
-      go : (x : Scan) → unless_at x (λ i. refused st.number (st.block i) (st.slot i)) (in_order refused rest a) ≡ r → (in_order refused rest a ≡ r → (next : A) → in_order refused rest next ≡ r)
+      go : (x : Option ℕ) → unless_at x (λ i. refused st.number (st.block i) (st.slot i)) (in_order refused rest a) ≡ r → (in_order refused rest a ≡ r → (next : A) → in_order refused rest next ≡ r)
           → unless_at x (λ i. refused st.number (st.block i) (st.slot i)) (in_order refused rest next) ≡ r
-      go Clear q ih = ih q next
-      go (Stopped i) q ih = q
+      go None q ih = ih q next
+      go (Some i) q ih = q
 
   pub passed_on : (stages : List Stage) {a : A} → ((m b s : ℕ) → refused m b s ≡ a → ⊥) → in_order refused stages a ≡ a → (next : A) → in_order refused stages next ≡ next
   unfolding in_order unless_at
   passed_on [] never e next = refl
   passed_on (st ∷ rest) {a} never e next = go (first_bad st.ok st.count) e (passed_on rest {a = a} never)
     where
-      go : (x : Scan) → unless_at x (λ i. refused st.number (st.block i) (st.slot i)) (in_order refused rest a) ≡ a → (in_order refused rest a ≡ a → (next : A) → in_order refused rest next ≡ next)
+      go : (x : Option ℕ) → unless_at x (λ i. refused st.number (st.block i) (st.slot i)) (in_order refused rest a) ≡ a → (in_order refused rest a ≡ a → (next : A) → in_order refused rest next ≡ next)
           → unless_at x (λ i. refused st.number (st.block i) (st.slot i)) (in_order refused rest next) ≡ next
-      go Clear q ih = ih q next
-      go (Stopped i) q ih = absurd (never st.number (st.block i) (st.slot i) q)
+      go None q ih = ih q next
+      go (Some i) q ih = absurd (never st.number (st.block i) (st.slot i) q)
 
   -- an answer that is no refusal is the one that comes after the table
   pub answer_is : (stages : List Stage) {a r : A} → ((m b s : ℕ) → refused m b s ≡ r → ⊥) → in_order refused stages a ≡ r → a ≡ r

@@ -1,5 +1,6 @@
 -- The first index that fails a test: what it is, that there is one only, and the laws of a loop that looks for it.
 -- Assumes nothing.
+use Rattle.std.specs.Prelude.{Option, None, Some}
 use borrow.Author.Rules.{rules}
 use borrow.Author.Tests.{not-true, not-false}
 use lib.Dec.{T}
@@ -9,8 +10,6 @@ use native.Mathlib.Decide.{dec_lt}
 use native.Mathlib.Numerals.{add-one}
 use native.Mathlib.Omega.{arith}
 use Prim.Native.Nat.{ℕ, zero, suc, ◌+◌, ◌≤◌, ◌<◌}
-use Rattle.scans.specs.declared.Scan.{Scan}
-use Rattle.scans.specs.declared.Scan.TheVariants.{Clear, Stopped}
 use Rattle.scans.specs.First.{go_on, first_bad, is_clear, each, FirstBad, Passed}
 use Rattle.scans.proofs.Bools.{both_ways}
 
@@ -22,50 +21,50 @@ below_suc P n f p i h = go (dec_lt i n)
     go (yes l) = f i l
     go (no l) = let e : n ≡ i = omega arith in rw e at p
 
-clear_stopped : {P : Type 0} {i : ℕ} → Clear ≡ Stopped i → P
-clear_stopped e = let z : ◌≡◌ {A = ℕ} 0 1 = cc in absurd (omega arith)
+pub none_some : {A P : Type 0} {x : A} → None ≡ Some x → P
+none_some e = absurd cc
 
 module _ (f : ℕ → Bool) where
   -- nothing stops the search: each index passes
-  pub clear_each : (n : ℕ) → first_bad f n ≡ Clear → (i : ℕ) → i < n → f i ≡ true
+  pub clear_each : (n : ℕ) → first_bad f n ≡ None → (i : ℕ) → i < n → f i ≡ true
   unfolding first_bad
   clear_each zero e = λ i h. absurd (omega arith)
   clear_each (suc n) e = go (first_bad f n) (f n) refl refl e (clear_each n)
     where
-      go : (s : Scan) (b : Bool) → first_bad f n ≡ s → f n ≡ b → go_on s b n ≡ Clear → (first_bad f n ≡ Clear → (i : ℕ) → i < n → f i ≡ true) → (i : ℕ) → i < suc n → f i ≡ true
-      go Clear true p q e ih = below_suc (λ i. f i ≡ true) n (ih p) q
-      go Clear false p q e ih = clear_stopped (sym e)
-      go (Stopped j) b p q e ih = clear_stopped (sym e)
+      go : (s : Option ℕ) (b : Bool) → first_bad f n ≡ s → f n ≡ b → go_on s b n ≡ None → (first_bad f n ≡ None → (i : ℕ) → i < n → f i ≡ true) → (i : ℕ) → i < suc n → f i ≡ true
+      go None true p q e ih = below_suc (λ i. f i ≡ true) n (ih p) q
+      go None false p q e ih = none_some (sym e)
+      go (Some j) b p q e ih = none_some (sym e)
 
-  pub each_clear : (n : ℕ) → ((i : ℕ) → i < n → f i ≡ true) → first_bad f n ≡ Clear
+  pub each_clear : (n : ℕ) → ((i : ℕ) → i < n → f i ≡ true) → first_bad f n ≡ None
   unfolding first_bad
   each_clear zero h = refl
   each_clear (suc n) h = rw (each_clear n (λ i l. h i (omega arith)), h n (omega arith))
 
   -- it stops: there, and nowhere before
-  pub stopped_at : (n : ℕ) {i : ℕ} → first_bad f n ≡ Stopped i → FirstBad f n i
+  pub stopped_at : (n : ℕ) {i : ℕ} → first_bad f n ≡ Some i → FirstBad f n i
   unfolding first_bad
-  stopped_at zero e = clear_stopped e
+  stopped_at zero e = none_some e
   stopped_at (suc n) {i} e = go (first_bad f n) (f n) refl refl e (stopped_at n {i = i})
     where
-      go : (s : Scan) (b : Bool) → first_bad f n ≡ s → f n ≡ b → go_on s b n ≡ Stopped i → (first_bad f n ≡ Stopped i → FirstBad f n i) → FirstBad f (suc n) i
-      go Clear true p q e ih = clear_stopped e
-      go Clear false p q e ih =
+      go : (s : Option ℕ) (b : Bool) → first_bad f n ≡ s → f n ≡ b → go_on s b n ≡ Some i → (first_bad f n ≡ Some i → FirstBad f n i) → FirstBad f (suc n) i
+      go None true p q e ih = none_some e
+      go None false p q e ih =
           let w : n ≡ i = cc in
           let r : FirstBad f (suc n) n = record { below = omega arith; fails = q; before = clear_each n p } in
           subst (FirstBad f (suc n)) w r
-      go (Stopped j) b p q e ih = let r = ih (p ∙ e) in record { below = omega arith; fails = r.fails; before = r.before }
+      go (Some j) b p q e ih = let r = ih (p ∙ e) in record { below = omega arith; fails = r.fails; before = r.before }
 
   -- whatever fails, with each index before it passing, is where it stops
-  pub at_stopped : (n : ℕ) {i : ℕ} → FirstBad f n i → first_bad f n ≡ Stopped i
+  pub at_stopped : (n : ℕ) {i : ℕ} → FirstBad f n i → first_bad f n ≡ Some i
   at_stopped n {i} r = go (first_bad f n) refl
     where
-      go : (s : Scan) → first_bad f n ≡ s → s ≡ Stopped i
-      go Clear e = both_ways (clear_each n e i r.below) r.fails
-      go (Stopped j) e =
+      go : (s : Option ℕ) → first_bad f n ≡ s → s ≡ Some i
+      go None e = both_ways (clear_each n e i r.below) r.fails
+      go (Some j) e =
           order (stopped_at n e) (dec_lt j i) (dec_lt i j)
         where
-          order : FirstBad f n j → Dec (j < i) → Dec (i < j) → Stopped j ≡ Stopped i
+          order : FirstBad f n j → Dec (j < i) → Dec (i < j) → Some j ≡ Some i
           order s (yes h) d = both_ways (r.before j h) s.fails
           order s (no h) (yes g) = both_ways (s.before i g) r.fails
           order s (no h) (no g) = let q : j ≡ i = omega arith in cc
@@ -74,9 +73,9 @@ module _ (f : ℕ → Bool) where
   unfolding each
   each_e n t = go (first_bad f n) refl t
     where
-      go : (s : Scan) → first_bad f n ≡ s → T (is_clear s) → (i : ℕ) → i < n → f i ≡ true
-      go Clear e u = clear_each n e
-      go (Stopped j) e u = absurd u
+      go : (s : Option ℕ) → first_bad f n ≡ s → T (is_clear s) → (i : ℕ) → i < n → f i ≡ true
+      go None e u = clear_each n e
+      go (Some j) e u = absurd u
 
   pub each_i : (n : ℕ) → ((i : ℕ) → i < n → f i ≡ true) → T (each f n)
   unfolding each
@@ -87,19 +86,19 @@ module _ (f : ℕ → Bool) where
   unfolding each
   each_not n e = go (first_bad f n) refl e
     where
-      go : (s : Scan) → first_bad f n ≡ s → is_clear s ≡ false → (i : ℕ) × FirstBad f n i
-      go Clear p q = both_ways refl q
-      go (Stopped i) p q = (i, stopped_at n p)
+      go : (s : Option ℕ) → first_bad f n ≡ s → is_clear s ≡ false → (i : ℕ) × FirstBad f n i
+      go None p q = both_ways refl q
+      go (Some i) p q = (i, stopped_at n p)
 
 -- each of one more
 pub each_suc : (f : ℕ → Bool) (n : ℕ) → each f (suc n) ≡ (each f n && f n)
 unfolding each first_bad
 each_suc f n = go (first_bad f n) (f n)
   where
-    go : (s : Scan) (b : Bool) → is_clear (go_on s b n) ≡ (is_clear s && b)
-    go Clear true = refl
-    go Clear false = refl
-    go (Stopped i) b = refl
+    go : (s : Option ℕ) (b : Bool) → is_clear (go_on s b n) ≡ (is_clear s && b)
+    go None true = refl
+    go None false = refl
+    go (Some i) b = refl
 
 -- two tests that agree below n stop at the same index
 pub first_bad_same : (f g : ℕ → Bool) (n : ℕ) → ((i : ℕ) → i < n → f i ≡ g i) → first_bad f n ≡ first_bad g n
@@ -117,10 +116,10 @@ module _ {f : ℕ → Bool} {n i : ℕ} (p : Passed f n i) where
   unfolding first_bad
   passed_more h q e = let w : f i ≡ true = cc in record { within = omega arith; so_far = rw (add-one, p.so_far, w) }
 
-  pub passed_bad : i < n → {t : Bool} → t ≡ f i → t ≡ false → Stopped i ≡ first_bad f n
+  pub passed_bad : i < n → {t : Bool} → t ≡ f i → t ≡ false → Some i ≡ first_bad f n
   passed_bad h q e = let w : f i ≡ false = cc in sym (at_stopped f n (record { below = h; fails = w; before = clear_each f i p.so_far }))
 
-  pub passed_all : n ≤ i → Clear ≡ first_bad f n
+  pub passed_all : n ≤ i → None ≡ first_bad f n
   passed_all h = let e : i ≡ n = omega arith in sym (rw e at p.so_far)
 
   -- of a loop that answers only whether each index passes
@@ -136,7 +135,7 @@ module _ {f : ℕ → Bool} {n i : ℕ} (p : Passed f n i) where
   pub passed_more! : i < n → {t : Bool} → t ≡ f i → not t ≡ false → Passed f n (i + 1)
   passed_more! h {t} q e = passed_more h q (not-false t e)
 
-  pub passed_bad! : i < n → {t : Bool} → t ≡ f i → not t ≡ true → Stopped i ≡ first_bad f n
+  pub passed_bad! : i < n → {t : Bool} → t ≡ f i → not t ≡ true → Some i ≡ first_bad f n
   passed_bad! h {t} q e = passed_bad h q (not-true t e)
 
   pub passed_not! : i < n → {t : Bool} → t ≡ f i → not t ≡ true → false ≡ each f n

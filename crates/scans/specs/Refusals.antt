@@ -1,8 +1,7 @@
 -- Refusals in their order: a table of tests, each with its number and the places at which it is asked.
 -- Assumes nothing.
+use Rattle.std.specs.Prelude.{Option, None, Some}
 use Rattle.std.specs.Prelude.{◌≡◌, ◌⊎◌, Bool, false, List, [], ◌∷◌, ℕ, ◌<◌}
-use Rattle.scans.specs.declared.Scan.{Scan}
-use Rattle.scans.specs.declared.Scan.TheVariants.{Clear, Stopped}
 use Rattle.scans.specs.First.{first_bad}
 
 -- a number's test, asked at the indexes below count; index i stands for this block, and this record in it
@@ -18,9 +17,9 @@ abbrev pub whole : ℕ → Bool → Stage
 whole number ok = record { number = number; count = 1; ok = λ _. ok; block = λ _. 0; slot = λ _. 0 }
 
 -- refused at the first index that fails, unless none does
-unfoldable pub unless_at : {A : Type 0} → Scan → (ℕ → A) → A → A
-unless_at Clear at_place next = next
-unless_at (Stopped i) at_place next = at_place i
+unfoldable pub unless_at : {A : Type 0} → Option ℕ → (ℕ → A) → A → A
+unless_at None at_place next = next
+unless_at (Some i) at_place next = at_place i
 
 -- the first stage that fails refuses, at the first place where it does; if none fails, this is the answer
 unfoldable pub in_order : {A : Type 0} → (ℕ → ℕ → ℕ → A) → List Stage → A → A

@@ -1,5 +1,6 @@
 -- One changed byte of an accepted job is always seen: the check of its block refuses it, whatever the byte.
 -- Assumes nothing.
+use Rattle.std.specs.Prelude.{Some}
 use borrow.Author.Tests.{eqb-true, ne_eqb}
 use mathlib.Core.Path.{◌≡◌, refl, sym, ◌∙◌, ap}
 use mathlib.Core.Logic.{◌≢◌}
@@ -9,7 +10,6 @@ use native.Mathlib.Omega.{arith}
 use Prim.Native.Nat.{ℕ, ◌+◌, ◌*◌, ◌/◌, ◌%◌, ◌<◌}
 use lib.Dec.{eqb}
 use lib.ListN.{length}
-use Rattle.scans.specs.declared.Scan.TheVariants.{Stopped}
 use Rattle.scans.specs.First.{first_bad}
 use Rattle.scans.proofs.Search.{at_stopped}
 use Rattle.scans.proofs.Order.{on_stopped, on_passed}
@@ -56,7 +56,7 @@ module _ (s t : List ℕ) (j : ℕ) (changed : OneChanged s t j) where
       let long = read_length s was in
       let size = changed.size in
       let h = changed.within in
-      let stops : first_bad (sum_ok t) (length t / 512) ≡ Stopped (j / 512) =
+      let stops : first_bad (sum_ok t) (length t / 512) ≡ Some (j / 512) =
       at_stopped (sum_ok t) (length t / 512)
       (record {
         below = omega arith;

@@ -1,14 +1,11 @@
 -- Each operation's promise determines its answer and all lent memory: two outcomes that it allows are equal.
 -- Assumes nothing.
+use Rattle.std.specs.Prelude.{Result, Ok, Err}
 use mathlib.Core.Path.{◌≡◌, sym, ◌∙◌}
 use mathlib.Core.List.{List, [], ◌∷◌}
 use Prim.Native.Nat.{ℕ}
 use Rattle.stored.specs.declared.Size.{Size}
 use Rattle.stored.specs.declared.Refusal.{Refusal}
-use Rattle.stored.specs.declared.Read.{Read}
-use Rattle.stored.specs.declared.Read.TheVariants.{Accepted}
-use Rattle.stored.specs.declared.Packed.{Packed}
-use Rattle.stored.specs.declared.Packed.TheVariants.{Written}
 use Rattle.stored.specs.Layout.{Records}
 use Rattle.stored.specs.Reading.{refused, accepted_as, read_answer, stated_read}
 use Rattle.stored.specs.Packing.{stated_packed}
@@ -33,26 +30,26 @@ size_same x y e =
     λ i. record { k = k i; n = n i; e = f i; c = c i }
 
 -- two answers that are stated alike are one
-pub read_injective : (a b : Read) → stated_read a ≡ stated_read b → a ≡ b
-read_injective (Accepted x) (Accepted y) e = cc (size_same x y e)
-read_injective (Accepted x) (Read.Refused y) e = absurd (refused_done y.number y.block y.«record» (sym e))
-read_injective (Read.Refused x) (Accepted y) e = absurd (refused_done x.number x.block x.«record» e)
-read_injective (Read.Refused x) (Read.Refused y) e = cc (refusal_same x y e)
+pub read_injective : (a b : Result Size Refusal) → stated_read a ≡ stated_read b → a ≡ b
+read_injective (Ok x) (Ok y) e = cc (size_same x y e)
+read_injective (Ok x) (Err y) e = absurd (refused_done y.number y.block y.«record» (sym e))
+read_injective (Err x) (Ok y) e = absurd (refused_done x.number x.block x.«record» e)
+read_injective (Err x) (Err y) e = cc (refusal_same x y e)
 
-pub packed_injective : (a b : Packed) → stated_packed a ≡ stated_packed b → a ≡ b
-packed_injective (Written x) (Written y) e = let ns : x ∷ [] ≡ y ∷ [] = λ i. (e i).numbers in cc
-packed_injective (Written x) (Packed.Refused y) e = absurd (refused_done y.number y.block y.«record» (sym e))
-packed_injective (Packed.Refused x) (Written y) e = absurd (refused_done x.number x.block x.«record» e)
-packed_injective (Packed.Refused x) (Packed.Refused y) e = cc (refusal_same x y e)
+pub packed_injective : (a b : Result ℕ Refusal) → stated_packed a ≡ stated_packed b → a ≡ b
+packed_injective (Ok x) (Ok y) e = let ns : x ∷ [] ≡ y ∷ [] = λ i. (e i).numbers in cc
+packed_injective (Ok x) (Err y) e = absurd (refused_done y.number y.block y.«record» (sym e))
+packed_injective (Err x) (Ok y) e = absurd (refused_done x.number x.block x.«record» e)
+packed_injective (Err x) (Err y) e = cc (refusal_same x y e)
 
-pub sizes_determined : (job : List ℕ) (a b : Read) → stated_read a ≡ read_answer job → stated_read b ≡ read_answer job → a ≡ b
+pub sizes_determined : (job : List ℕ) (a b : Result Size Refusal) → stated_read a ≡ read_answer job → stated_read b ≡ read_answer job → a ≡ b
 sizes_determined job a b p q = read_injective a b (p ∙ sym q)
 
-pub unpack_determined : {job nodes expressions clauses nodes₁ expressions₁ clauses₁ nodes₂ expressions₂ clauses₂ : List ℕ} {a b : Read}
+pub unpack_determined : {job nodes expressions clauses nodes₁ expressions₁ clauses₁ nodes₂ expressions₂ clauses₂ : List ℕ} {a b : Result Size Refusal}
     → Unpacks job nodes expressions clauses nodes₁ expressions₁ clauses₁ a → Unpacks job nodes expressions clauses nodes₂ expressions₂ clauses₂ b
     → (a ≡ b) × (nodes₁ ≡ nodes₂) × (expressions₁ ≡ expressions₂) × (clauses₁ ≡ clauses₂)
 unpack_determined {a = a} {b} p q =
     (read_injective a b (p.answer ∙ sym q.answer), p.nodes_are ∙ sym q.nodes_are, p.expressions_are ∙ sym q.expressions_are, p.clauses_are ∙ sym q.clauses_are)
 
-pub pack_determined : {r : Records} {out out₁ out₂ : List ℕ} {a b : Packed} → Packs r out out₁ a → Packs r out out₂ b → (a ≡ b) × (out₁ ≡ out₂)
+pub pack_determined : {r : Records} {out out₁ out₂ : List ℕ} {a b : Result ℕ Refusal} → Packs r out out₁ a → Packs r out out₂ b → (a ≡ b) × (out₁ ≡ out₂)
 pack_determined {a = a} {b} p q = (packed_injective a b (p.answer ∙ sym q.answer), p.out_is ∙ sym q.out_is)

@@ -1,5 +1,7 @@
 -- Round trips, over what the operations promise: what pack writes, unpack gives back as the same records; what unpack gave, pack writes as the same bytes.
 -- Assumes nothing.
+use Rattle.std.specs.Prelude.{Result}
+use Rattle.stored.specs.declared.Refusal.{Refusal}
 use mathlib.Core.Path.{◌≡◌, sym, ◌∙◌, ap}
 use mathlib.Core.List.{List, ◌++◌}
 use Prim.Native.Nat.{ℕ, ◌*◌, ◌≤◌}
@@ -7,7 +9,6 @@ use native.Mathlib.Omega.{arith}
 use lib.ListN.{length, take, drop}
 use lib.Seq.{take_at}
 use Rattle.stored.specs.declared.Size.{Size}
-use Rattle.stored.specs.declared.Packed.{Packed}
 use Rattle.stored.specs.Bytes.{Bytes}
 use Rattle.stored.specs.Layout.{Records, sizes_of, blocks_of, stored, records_of}
 use Rattle.stored.specs.Reading.{accepted_as, read_answer, lent}
@@ -22,7 +23,7 @@ pub record ReadsBack (r : Records) (job : List ℕ) : Type 0 where
   pub accepted : read_answer job ≡ accepted_as (sizes_of r)
   pub records : records_of job ≡ r
 
-pub pack_unpack : (r : Records) → ByteLists r → (out out' : List ℕ) (p : Packed) (bytes : ℕ) → Packs r out out' p → stated_packed p ≡ written bytes → ReadsBack r (take bytes out')
+pub pack_unpack : (r : Records) → ByteLists r → (out out' : List ℕ) (p : Result ℕ Refusal) (bytes : ℕ) → Packs r out out' p → stated_packed p ≡ written bytes → ReadsBack r (take bytes out')
 unfolding lent
 pack_unpack r b out out' p bytes packs e =
     let a : pack_answer r (length out) ≡ written bytes = sym packs.answer ∙ e in
@@ -33,11 +34,11 @@ pack_unpack r b out out' p bytes packs e =
     rw t (record { accepted = stored_accepted r k b; records = reads_back r (record { lists = k.lists; limits = k.limits; bytes = b }) })
 
 -- the records of a job that reading accepts: pack, given room, writes the very bytes
-pub record WritesBack (job out out' : List ℕ) (p : Packed) : Type 0 where
+pub record WritesBack (job out out' : List ℕ) (p : Result ℕ Refusal) : Type 0 where
   pub answer : stated_packed p ≡ written (length job)
   pub bytes : out' ≡ job ++ drop (length job) out
 
-pub unpack_pack : (job : List ℕ) (z : Size) → Bytes job → read_answer job ≡ accepted_as z → (out out' : List ℕ) (p : Packed) → length job ≤ length out → Packs (records_of job) out out' p → WritesBack job out out' p
+pub unpack_pack : (job : List ℕ) (z : Size) → Bytes job → read_answer job ≡ accepted_as z → (out out' : List ℕ) (p : Result ℕ Refusal) → length job ≤ length out → Packs (records_of job) out out' p → WritesBack job out out' p
 unfolding lent
 unpack_pack job z b e out out' p room packs =
     let passes = accepted_passes job z e in

@@ -2,8 +2,12 @@
 -- Assumes nothing.
 use Rattle.std.specs.Prelude.{List, [], ◌∷◌, ℕ, ◌+◌, ◌*◌, eqb, get_or}
 use Rattle.meaning.specs.Gates.{gate_of_code}
-use Rattle.meaning.specs.Guards.{Expression, FALSE, TRUE, VARIABLE, NOT, AND, OR, XOR}
-use Rattle.meaning.specs.Jobs.{Node, stimulus, expectation, Clause, Job}
+use Rattle.meaning.specs.declared.Expression.{Expression}
+use Rattle.meaning.specs.declared.Expression.TheVariants.{False, True, Variable, Not, And, Or, Xor}
+use Rattle.meaning.specs.declared.Node.{Node}
+use Rattle.meaning.specs.declared.Clause.{Clause}
+use Rattle.meaning.specs.declared.Side.TheVariants.{Stimulus, Expectation}
+use Rattle.meaning.specs.Jobs.{Job}
 use Rattle.stored.specs.Bytes.{byte_at, u16_at}
 use Rattle.stored.specs.Layout.{Records, sizes_of}
 
@@ -15,12 +19,12 @@ unfoldable pub expression_at : List ℕ → ℕ → Expression
 expression_at s at =
     let a = u16_at s (at + 2) in
     let b = u16_at s (at + 4) in
-    get_or (FALSE ∷ TRUE ∷ VARIABLE a ∷ NOT a ∷ AND a b ∷ OR a b ∷ XOR a b ∷ []) (byte_at s at) FALSE
+    get_or (False ∷ True ∷ Variable a ∷ Not a ∷ And a b ∷ Or a b ∷ Xor a b ∷ []) (byte_at s at) False
 
 unfoldable pub clause_at : List ℕ → ℕ → Clause
 clause_at s at =
     record {
-      side = get_or (stimulus ∷ expectation ∷ []) (byte_at s at) stimulus;
+      side = get_or (Stimulus ∷ Expectation ∷ []) (byte_at s at) Stimulus;
       value = eqb (byte_at s (at + 1)) 1;
       node = u16_at s (at + 2);
       time = u16_at s (at + 4);

@@ -1,6 +1,7 @@
 pub mod Bytes
 pub mod Layout
 pub mod Rules
+pub mod Reasons
 pub mod Reading
 pub mod Packing
 pub mod Decoding

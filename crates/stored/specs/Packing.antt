@@ -1,10 +1,10 @@
 -- Packing: the table of its refusals, and what is answered.
 -- Assumes nothing.
+use Rattle.std.specs.Prelude.{Result, Ok, Err}
+use Rattle.stored.specs.declared.Refusal.{Refusal}
 use Rattle.std.specs.Prelude.{◌≡◌, Bool, true, ◌&&◌, List, [], ◌∷◌, ◌++◌, ℕ, ◌*◌, ◌%◌, ◌<◌, eqb, leb, length}
 use Rattle.scans.specs.Refusals.{Stage, whole, in_order}
 use Rattle.meaning.specs.Stated.{Stated, DONE, state}
-use Rattle.stored.specs.declared.Packed.{Packed}
-use Rattle.stored.specs.declared.Packed.TheVariants.{Written, Refused}
 use Rattle.stored.specs.Bytes.{Bytes}
 use Rattle.stored.specs.Layout.{Records, sizes_of, blocks_of}
 use Rattle.stored.specs.Rules.{limits_ok, node_ok, expression_ok, clause_ok}
@@ -28,9 +28,9 @@ pack_answer r room =
     in_order refused (pack_stages r ++ whole 13 (leb size room) ∷ []) (written size)
 
 -- the number and values of each case of packing's answer
-abbrev pub stated_packed : Packed → Stated
-stated_packed (Written bytes) = written bytes
-stated_packed (Refused r) = refused r.number r.block r.«record»
+abbrev pub stated_packed : Result ℕ Refusal → Stated
+stated_packed (Ok bytes) = written bytes
+stated_packed (Err r) = refused r.number r.block r.«record»
 
 -- records that keep every rule: what pack accepts, given room
 pub record Keeps (r : Records) : Type 0 where

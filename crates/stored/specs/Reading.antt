@@ -1,12 +1,12 @@
 -- Reading a stored job: the table of refusals 1 to 10, and what is answered.
 -- Assumes nothing.
+use Rattle.std.specs.Prelude.{Result, Ok, Err}
+use Rattle.stored.specs.declared.Refusal.{Refusal}
 use Rattle.std.specs.Prelude.{Bool, ◌&&◌, ◌||◌, cond, List, [], ◌∷◌, ◌++◌, ℕ, ◌+◌, ◌*◌, ◌/◌, ◌%◌, ◌^◌, eqb, ltb, leb, length, drop}
 use Rattle.scans.specs.First.{each}
 use Rattle.scans.specs.Refusals.{Stage, whole, in_order}
 use Rattle.meaning.specs.Stated.{Stated, REFUSED, DONE, state, is_done}
 use Rattle.stored.specs.declared.Size.{Size}
-use Rattle.stored.specs.declared.Read.{Read}
-use Rattle.stored.specs.declared.Read.TheVariants.{Accepted, Refused}
 use Rattle.stored.specs.Bytes.{byte_at, u16_at, word_sum}
 use Rattle.stored.specs.Layout.{Records, sizes_of, first_expressions, first_clauses, blocks_of, kind_of, used_of, header_sizes, records_of}
 use Rattle.stored.specs.Rules.{limits_ok, node_ok, expression_ok, clause_ok}
@@ -93,6 +93,6 @@ unfoldable pub lent : Stated → List ℕ → List ℕ → List ℕ
 lent answer written before = cond (is_done answer.word) (written ++ drop (length written) before) before
 
 -- the number and values of each case of reading's answer
-abbrev pub stated_read : Read → Stated
-stated_read (Accepted z) = accepted_as z
-stated_read (Refused r) = refused r.number r.block r.«record»
+abbrev pub stated_read : Result Size Refusal → Stated
+stated_read (Ok z) = accepted_as z
+stated_read (Err r) = refused r.number r.block r.«record»

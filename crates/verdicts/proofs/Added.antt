@@ -10,7 +10,9 @@ use Prim.Native.Nat.{ℕ, suc, ◌*◌, ◌-◌, ◌/◌, ◌≤◌, ◌<◌}
 use lib.Dec.{T}
 use lib.ListN.{length, length-append}
 use Rattle.meaning.specs.Guards.{truth}
-use Rattle.meaning.specs.Jobs.{Side, stimulus, expectation, until, Job, asks, Asks, last_time}
+use Rattle.meaning.specs.declared.Side.{Side}
+use Rattle.meaning.specs.declared.Side.TheVariants.{Stimulus, Expectation}
+use Rattle.meaning.specs.Jobs.{until, Job, asks, Asks, last_time}
 use Rattle.meaning.specs.Stated.{HOLDS, VACANT}
 use Rattle.meaning.specs.Answers.{job_answer}
 use Rattle.meaning.proofs.Clauses.{asks_same, asks_side, until_le, latest_le}
@@ -86,7 +88,7 @@ module _ (r r' : Records) (added : AddedStimulus r r') (keeps : Keeps r) where
 
   -- and each clause of r' is the new one, or has its place in r
   data Origin (k : ℕ) : Type 0 where
-    new : (j'.clause k).side ≡ stimulus → Origin k
+    new : (j'.clause k).side ≡ Stimulus → Origin k
     old : (i : ℕ) → Moved i k → Origin k
 
   origin : (k : ℕ) → k < j'.count → Origin k
@@ -135,21 +137,21 @@ module _ (r r' : Records) (added : AddedStimulus r r') (keeps : Keeps r) where
             let m = moved i a.below in
             record {
               at = m.0;
-              asks = record { below = m.1.to_below; there = subst (λ b. T b) (moved_asks m.1 stimulus x t n) a.there };
+              asks = record { below = m.1.to_below; there = subst (λ b. T b) (moved_asks m.1 Stimulus x t n) a.there };
               value_is = ap (λ c. c.value) m.1.is;
             };
         no_new = λ x t n k a. from x t n k a (origin k a.below);
       }
     where
-      from : (x t n k : ℕ) → Asks j' expectation x t n k → Origin k → Kept j' j expectation x t n k
+      from : (x t n k : ℕ) → Asks j' Expectation x t n k → Origin k → Kept j' j Expectation x t n k
       from x t n k a (new e) = clash (sym e ∙ asks_side j' a)
         where
-          clash : stimulus ≡ expectation → Kept j' j expectation x t n k
+          clash : Stimulus ≡ Expectation → Kept j' j Expectation x t n k
           clash q = let z : ◌≡◌ {A = ℕ} 0 1 = cc in absurd (omega arith)
       from x t n k a (old i m) =
           record {
             at = i;
-            asks = record { below = m.from_below; there = subst (λ b. T b) (sym (moved_asks m expectation x t n)) a.there };
+            asks = record { below = m.from_below; there = subst (λ b. T b) (sym (moved_asks m Expectation x t n)) a.there };
             value_is = ap (λ c. c.value) (sym m.is);
           }
 

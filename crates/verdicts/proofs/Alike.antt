@@ -7,7 +7,8 @@ use native.Mathlib.Omega.{arith}
 use Prim.Native.Nat.{ℕ, zero, suc, ◌+◌, ◌≤◌, ◌<◌}
 use lib.ListN.{length, get_or-append}
 use lib.Seq.{get_or-append-add}
-use Rattle.meaning.specs.Guards.{Expression, truths, truth}
+use Rattle.meaning.specs.declared.Expression.{Expression}
+use Rattle.meaning.specs.Guards.{truths, truth}
 use Rattle.stored.specs.Bytes.{byte_at, u16_at}
 use Rattle.stored.specs.Decoding.{expression_at, clause_at}
 

@@ -1,49 +1,47 @@
 -- Each operation's promise determines its answer and all lent memory: two outcomes that it allows are equal.
 -- Assumes nothing.
+use Rattle.std.specs.Prelude.{Result, Ok, Err}
+use Rattle.meaning.specs.declared.JobAnswer.{JobAnswer}
+use Rattle.meaning.specs.declared.CaseAnswer.{CaseAnswer}
+use Rattle.stored.specs.declared.Size.{Size}
 use mathlib.Core.Path.{◌≡◌, sym, ◌∙◌}
 use mathlib.Core.List.{List, [], ◌∷◌}
 use Prim.Native.Nat.{ℕ}
 use Rattle.meaning.proofs.Stated.{case_injective, job_injective}
-use Rattle.stored.specs.declared.Read.{Read}
 use Rattle.stored.specs.declared.Refusal.{Refusal}
 use Rattle.stored.specs.Reading.{refused}
 use Rattle.stored.proofs.Accepted.{refused_done}
 use Rattle.stored.proofs.Determined.{read_injective}
-use Rattle.verdicts.specs.declared.Checked.{Checked}
-use Rattle.verdicts.specs.declared.Checked.TheVariants.{Answered, Refused}
-use Rattle.verdicts.specs.declared.CaseChecked.{CaseChecked}
-use Rattle.verdicts.specs.declared.RowAsked.{RowAsked}
-use Rattle.verdicts.specs.declared.RowAsked.TheVariants.{Written}
 use Rattle.verdicts.specs.Running.{check_answer, one_case_answer, stated_checked, stated_case_checked, stated_row, GivesRow}
 use Rattle.verdicts.proofs.Answers.{refused_job, refused_case}
 
 refusal_same : (x y : Refusal) → refused x.number x.block x.«record» ≡ refused y.number y.block y.«record» → x ≡ y
-refusal_same x y e = cc (read_injective (Read.Refused x) (Read.Refused y) e)
+refusal_same x y e = cc (read_injective (Err x) (Err y) e)
 
 -- two answers that are stated alike are one
-pub checked_injective : (a b : Checked) → stated_checked a ≡ stated_checked b → a ≡ b
-checked_injective (Answered x) (Answered y) e = cc (job_injective x y e)
-checked_injective (Answered x) (Refused y) e = absurd (refused_job x _ _ _ (sym e))
-checked_injective (Refused x) (Answered y) e = absurd (refused_job y _ _ _ e)
-checked_injective (Refused x) (Refused y) e = cc (refusal_same x y e)
+pub checked_injective : (a b : Result JobAnswer Refusal) → stated_checked a ≡ stated_checked b → a ≡ b
+checked_injective (Ok x) (Ok y) e = cc (job_injective x y e)
+checked_injective (Ok x) (Err y) e = absurd (refused_job x _ _ _ (sym e))
+checked_injective (Err x) (Ok y) e = absurd (refused_job y _ _ _ e)
+checked_injective (Err x) (Err y) e = cc (refusal_same x y e)
 
-pub case_checked_injective : (a b : CaseChecked) → stated_case_checked a ≡ stated_case_checked b → a ≡ b
-case_checked_injective (CaseChecked.Answered x) (CaseChecked.Answered y) e = cc (case_injective x y e)
-case_checked_injective (CaseChecked.Answered x) (CaseChecked.Refused y) e = absurd (refused_case x _ _ _ (sym e))
-case_checked_injective (CaseChecked.Refused x) (CaseChecked.Answered y) e = absurd (refused_case y _ _ _ e)
-case_checked_injective (CaseChecked.Refused x) (CaseChecked.Refused y) e = cc (refusal_same x y e)
+pub case_checked_injective : (a b : Result CaseAnswer Refusal) → stated_case_checked a ≡ stated_case_checked b → a ≡ b
+case_checked_injective (Ok x) (Ok y) e = cc (case_injective x y e)
+case_checked_injective (Ok x) (Err y) e = absurd (refused_case x _ _ _ (sym e))
+case_checked_injective (Err x) (Ok y) e = absurd (refused_case y _ _ _ e)
+case_checked_injective (Err x) (Err y) e = cc (refusal_same x y e)
 
-pub row_injective : (a b : RowAsked) → stated_row a ≡ stated_row b → a ≡ b
-row_injective (Written x) (Written y) e = let ns : x ∷ [] ≡ y ∷ [] = λ i. (e i).numbers in cc
-row_injective (Written x) (RowAsked.Refused y) e = absurd (refused_done _ _ _ (sym e))
-row_injective (RowAsked.Refused x) (Written y) e = absurd (refused_done _ _ _ e)
-row_injective (RowAsked.Refused x) (RowAsked.Refused y) e = cc (refusal_same x y e)
+pub row_injective : (a b : Result ℕ Refusal) → stated_row a ≡ stated_row b → a ≡ b
+row_injective (Ok x) (Ok y) e = let ns : x ∷ [] ≡ y ∷ [] = λ i. (e i).numbers in cc
+row_injective (Ok x) (Err y) e = absurd (refused_done _ _ _ (sym e))
+row_injective (Err x) (Ok y) e = absurd (refused_done _ _ _ e)
+row_injective (Err x) (Err y) e = cc (refusal_same x y e)
 
-pub check_determined : (job : List ℕ) (a b : Checked) → stated_checked a ≡ check_answer job → stated_checked b ≡ check_answer job → a ≡ b
+pub check_determined : (job : List ℕ) (a b : Result JobAnswer Refusal) → stated_checked a ≡ check_answer job → stated_checked b ≡ check_answer job → a ≡ b
 check_determined job a b p q = checked_injective a b (p ∙ sym q)
 
-pub one_case_determined : (job : List ℕ) (x : ℕ) (a b : CaseChecked) → stated_case_checked a ≡ one_case_answer job x → stated_case_checked b ≡ one_case_answer job x → a ≡ b
+pub one_case_determined : (job : List ℕ) (x : ℕ) (a b : Result CaseAnswer Refusal) → stated_case_checked a ≡ one_case_answer job x → stated_case_checked b ≡ one_case_answer job x → a ≡ b
 one_case_determined job x a b p q = case_checked_injective a b (p ∙ sym q)
 
-pub row_determined : {job : List ℕ} {x t : ℕ} {out out₁ out₂ : List ℕ} {a b : RowAsked} → GivesRow job x t out out₁ a → GivesRow job x t out out₂ b → (a ≡ b) × (out₁ ≡ out₂)
+pub row_determined : {job : List ℕ} {x t : ℕ} {out out₁ out₂ : List ℕ} {a b : Result ℕ Refusal} → GivesRow job x t out out₁ a → GivesRow job x t out out₂ b → (a ≡ b) × (out₁ ≡ out₂)
 row_determined {a = a} {b} p q = (row_injective a b (p.answer ∙ sym q.answer), p.out_is ∙ sym q.out_is)

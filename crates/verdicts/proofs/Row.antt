@@ -1,5 +1,6 @@
 -- Demand 2's row over stored bytes: what is written are the numbers of the weakest run's state at the asked time; a refusal changes nothing lent.
 -- Assumes nothing.
+use Rattle.std.specs.Prelude.{Ok, Err}
 use mathlib.Core.Path.{◌≡◌, refl, sym, ◌∙◌, ap}
 use mathlib.Core.List.{List, ◌++◌}
 use native.Mathlib.Omega.{arith}
@@ -19,8 +20,6 @@ use Rattle.stored.specs.Reading.{lent}
 use Rattle.stored.specs.Packing.{written}
 use Rattle.stored.specs.Decoding.{job_of}
 use Rattle.stored.proofs.Accepted.{read_sizes}
-use Rattle.verdicts.specs.declared.RowAsked.{RowAsked}
-use Rattle.verdicts.specs.declared.RowAsked.TheVariants.{Written}
 use Rattle.verdicts.specs.Running.{job_in, row_answer, GivesRow}
 use Rattle.verdicts.specs.Said.{RowGiven}
 use Rattle.verdicts.proofs.RowRefusals.{RowIs, row_gives, row_bytes_lem}
@@ -44,7 +43,7 @@ number_most v0 = omega arith
 number_most v1 = omega arith
 number_most v_x = omega arith
 
-pub row_demand : (s : List ℕ) (x t bytes : ℕ) (out out' : List ℕ) → GivesRow s x t out out' (Written bytes) → RowGiven s x t bytes out out'
+pub row_demand : (s : List ℕ) (x t bytes : ℕ) (out out' : List ℕ) → GivesRow s x t out out' (Ok bytes) → RowGiven s x t bytes out out'
 unfolding lent
 row_demand s x t bytes out out' g =
     let j = job_in s in
@@ -74,6 +73,6 @@ row_values s x t bytes out out' r m h =
     (e, omega (arith, number_most (r.run t m)))
 
 -- a refusal changes nothing lent
-pub row_keeps : (s : List ℕ) (x t : ℕ) (out out' : List ℕ) (r : Refusal) → GivesRow s x t out out' (RowAsked.Refused r) → out' ≡ out
+pub row_keeps : (s : List ℕ) (x t : ℕ) (out out' : List ℕ) (r : Refusal) → GivesRow s x t out out' (Err r) → out' ≡ out
 unfolding lent
 row_keeps s x t out out' r g = rw (← g.answer) at g.out_is

@@ -1,12 +1,11 @@
 -- A table of refusals in two parts: which part gave an answer; and a test of the whole in front of a table.
 -- Assumes nothing.
+use Rattle.std.specs.Prelude.{Option, None, Some}
 use mathlib.Core.Path.{◌≡◌, refl, sym, ◌∙◌, ap}
 use mathlib.Core.Logic.{◌⊎◌, inl, inr, ⊎_elim, ◌↔◌}
 use mathlib.Core.Bool.{Bool, true, false}
 use mathlib.Core.List.{List, [], ◌∷◌, ◌++◌}
 use Prim.Native.Nat.{ℕ}
-use Rattle.scans.specs.declared.Scan.{Scan}
-use Rattle.scans.specs.declared.Scan.TheVariants.{Clear, Stopped}
 use Rattle.scans.specs.First.{first_bad}
 use Rattle.scans.specs.Refusals.{Stage, whole, unless_at, in_order}
 use Rattle.scans.proofs.Bools.{both_ways}
@@ -19,11 +18,11 @@ module _ {A : Type 0} (refused : ℕ → ℕ → ℕ → A) where
   own_or_next [] last e = inr (refl, e)
   own_or_next (st ∷ rest) {next} {r} last e = go (first_bad st.ok st.count) e (own_or_next rest {next = next} {r = r} last)
     where
-      go : (x : Scan) → unless_at x (λ i. refused st.number (st.block i) (st.slot i)) (in_order refused rest next) ≡ r
+      go : (x : Option ℕ) → unless_at x (λ i. refused st.number (st.block i) (st.slot i)) (in_order refused rest next) ≡ r
           → (in_order refused rest next ≡ r → (in_order refused rest last ≡ r) ⊎ ((in_order refused rest last ≡ last) × (next ≡ r)))
           → (unless_at x (λ i. refused st.number (st.block i) (st.slot i)) (in_order refused rest last) ≡ r) ⊎ ((unless_at x (λ i. refused st.number (st.block i) (st.slot i)) (in_order refused rest last) ≡ last) × (next ≡ r))
-      go Clear q ih = ih q
-      go (Stopped i) q ih = inl q
+      go None q ih = ih q
+      go (Some i) q ih = inl q
 
   module _ (first rest : List Stage) {last : A} (answer : A) (never : (m b l : ℕ) → refused m b l ≡ last → ⊥) where
     -- refused by the first part, or the first part's answer was given and the second part refuses

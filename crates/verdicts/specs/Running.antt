@@ -1,5 +1,9 @@
 -- Running a stored job: the tables of refusals of check, one case and row, and what each answers.
 -- Assumes nothing.
+use Rattle.std.specs.Prelude.{Result, Ok, Err}
+use Rattle.meaning.specs.declared.JobAnswer.{JobAnswer}
+use Rattle.stored.specs.declared.Refusal.{Refusal}
+use Rattle.meaning.specs.declared.CaseAnswer.{CaseAnswer}
 use Rattle.std.specs.Prelude.{◌≡◌, List, [], ◌∷◌, ◌++◌, ℕ, suc, ◌/◌, ◌^◌, ltb, leb, length}
 use Rattle.scans.specs.First.{each}
 use Rattle.scans.specs.Refusals.{Stage, whole, in_order}
@@ -12,11 +16,6 @@ use Rattle.stored.specs.Layout.{header_sizes, records_of}
 use Rattle.stored.specs.Reading.{read_stages, refused, lent}
 use Rattle.stored.specs.Packing.{written}
 use Rattle.stored.specs.Decoding.{job_of}
-use Rattle.verdicts.specs.declared.Checked.{Checked}
-use Rattle.verdicts.specs.declared.Checked.TheVariants.{Answered, Refused}
-use Rattle.verdicts.specs.declared.CaseChecked.{CaseChecked}
-use Rattle.verdicts.specs.declared.RowAsked.{RowAsked}
-use Rattle.verdicts.specs.declared.RowAsked.TheVariants.{Written}
 
 -- the job that stored bytes mean
 abbrev pub job_in : List ℕ → Job
@@ -49,19 +48,19 @@ unfoldable pub row_answer : List ℕ → ℕ → ℕ → ℕ → Stated
 row_answer s x t room = in_order refused (row_stages s x t room) (written (header_sizes s).n)
 
 -- the word and numbers of each case of these answers
-abbrev pub stated_checked : Checked → Stated
-stated_checked (Answered a) = stated_job a
-stated_checked (Refused r) = refused r.number r.block r.«record»
+abbrev pub stated_checked : Result JobAnswer Refusal → Stated
+stated_checked (Ok a) = stated_job a
+stated_checked (Err r) = refused r.number r.block r.«record»
 
-abbrev pub stated_case_checked : CaseChecked → Stated
-stated_case_checked (CaseChecked.Answered a) = stated_case a
-stated_case_checked (CaseChecked.Refused r) = refused r.number r.block r.«record»
+abbrev pub stated_case_checked : Result CaseAnswer Refusal → Stated
+stated_case_checked (Ok a) = stated_case a
+stated_case_checked (Err r) = refused r.number r.block r.«record»
 
-abbrev pub stated_row : RowAsked → Stated
-stated_row (Written bytes) = written bytes
-stated_row (RowAsked.Refused r) = refused r.number r.block r.«record»
+abbrev pub stated_row : Result ℕ Refusal → Stated
+stated_row (Ok bytes) = written bytes
+stated_row (Err r) = refused r.number r.block r.«record»
 
 -- what row promises: the answer, and the lent output after it, n bytes 0, 1, or 2 for X
-pub record GivesRow (job : List ℕ) (x t : ℕ) (out out' : List ℕ) (r : RowAsked) : Type 0 where
+pub record GivesRow (job : List ℕ) (x t : ℕ) (out out' : List ℕ) (r : Result ℕ Refusal) : Type 0 where
   pub answer : stated_row r ≡ row_answer job x t (length out)
   pub out_is : out' ≡ lent (row_answer job x t (length out)) (row_numbers (job_in job) x t (header_sizes job).n) out

@@ -5,7 +5,9 @@ use mathlib.Core.Bool.{Bool, true, false, not, ◌&&◌, ◌||◌, cond}
 use mathlib.Core.List.{[], ◌∷◌}
 use Prim.Native.Nat.{ℕ, ◌<◌}
 use Rattle.meaning.specs.Values.{Value, v0, v1, v_x, Cell, value, collision, join, join_cells, collides, bit, has}
-use Rattle.meaning.specs.Gates.{Gate, INPUT, ZERO, ONE, BUF, NOT, AND, OR, XOR, MUX, gate_of_code, gate_forces}
+use Rattle.meaning.specs.declared.Gate.{Gate}
+use Rattle.meaning.specs.declared.Gate.TheVariants.{Input, Zero, One, Buf, Not, And, Or, Xor, Mux}
+use Rattle.meaning.specs.Gates.{gate_of_code, gate_forces}
 use Rattle.meaning.specs.Guards.{bit_of}
 use Rattle.meaning.proofs.Everywhere.{values, values_e, values2_e, gates_e}
 use Rattle.meaning.proofs.Values.{has_e}
@@ -15,15 +17,15 @@ use Rattle.words.proofs.Choices.{get_or_first}
 
 -- the bits that a gate's words have at a place, from its operands' there
 abbrev pub gate_bits : Gate → Bits → Bits → Bits → Bits
-gate_bits INPUT p q r = record { zero = true; one = true }
-gate_bits ZERO p q r = record { zero = true; one = false }
-gate_bits ONE p q r = record { zero = false; one = true }
-gate_bits BUF p q r = p
-gate_bits NOT p q r = not_bits p
-gate_bits AND p q r = and_bits p q
-gate_bits OR p q r = or_bits p q
-gate_bits XOR p q r = xor_bits p q
-gate_bits MUX p q r = mux_bits p q r
+gate_bits Input p q r = record { zero = true; one = true }
+gate_bits Zero p q r = record { zero = true; one = false }
+gate_bits One p q r = record { zero = false; one = true }
+gate_bits Buf p q r = p
+gate_bits Not p q r = not_bits p
+gate_bits And p q r = and_bits p q
+gate_bits Or p q r = or_bits p q
+gate_bits Xor p q r = xor_bits p q
+gate_bits Mux p q r = mux_bits p q r
 
 abbrev cell_of_bits : Bits → Cell
 cell_of_bits p = cell_of p.zero p.one
@@ -68,8 +70,8 @@ forces_of {p = p} {q} {r} {new} g e h =
     }
 
 -- any other code is read as INPUT's
-pub forces_else : {code : ℕ} {p q r new : Pair} → (code < 9 → code ≡ 0) → ((i : ℕ) → i < 64 → bits_at new i ≡ gate_bits INPUT (bits_at p i) (bits_at q i) (bits_at r i)) → Forces code p q r new
-forces_else {code} h = forces_of INPUT (get_or_first INPUT (ZERO ∷ ONE ∷ BUF ∷ NOT ∷ AND ∷ OR ∷ XOR ∷ MUX ∷ []) code h)
+pub forces_else : {code : ℕ} {p q r new : Pair} → (code < 9 → code ≡ 0) → ((i : ℕ) → i < 64 → bits_at new i ≡ gate_bits Input (bits_at p i) (bits_at q i) (bits_at r i)) → Forces code p q r new
+forces_else {code} h = forces_of Input (get_or_first Input (Zero ∷ One ∷ Buf ∷ Not ∷ And ∷ Or ∷ Xor ∷ Mux ∷ []) code h)
 
 -- a clause that wants 1 clears what could be 0, one that wants 0 what could be 1
 abbrev pub narrow_bits : Bool → Bool → Bits → Bits

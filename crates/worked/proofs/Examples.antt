@@ -12,7 +12,8 @@ use Rattle.scans.specs.First.{first_bad, each, first_place}
 use Rattle.meaning.specs.declared.CaseAnswer.{CaseAnswer}
 use Rattle.meaning.specs.declared.JobAnswer.{JobAnswer}
 use Rattle.meaning.specs.Values.{Value, join, join_cells}
-use Rattle.meaning.specs.Gates.{Gate, gate_forces}
+use Rattle.meaning.specs.declared.Gate.{Gate}
+use Rattle.meaning.specs.Gates.{gate_forces}
 use Rattle.meaning.specs.Guards.{bit_of, truth_given, truths, truth}
 use Rattle.meaning.specs.Jobs.{on, until, speaks, asks, latest, last_time}
 use Rattle.meaning.specs.Rows.{asked_by, stimulus_at, forces_from, forced, cell, row_clear, row_numbers}

@@ -7,7 +7,9 @@ use Rattle.meaning.specs.declared.Counts.{Counts}
 use Rattle.meaning.specs.declared.JobAnswer.{JobAnswer}
 use Rattle.meaning.specs.declared.JobAnswer.TheVariants.{Holds, Vacant}
 use Rattle.meaning.specs.Values.{Value, v0, v1, v_x}
-use Rattle.meaning.specs.Gates.{Gate, AND, OR, XOR, MUX, gate_forces}
+use Rattle.meaning.specs.declared.Gate.{Gate}
+use Rattle.meaning.specs.declared.Gate.TheVariants.{And, Or, Xor, Mux}
+use Rattle.meaning.specs.Gates.{gate_forces}
 use Rattle.meaning.specs.Rows.{row_numbers}
 use Rattle.meaning.specs.Stated.{stated_case, stated_job}
 use Rattle.stored.specs.Packing.{written}
@@ -32,11 +34,11 @@ counts c p f e = record { cases = c; passing = p; failing = f; empty = e }
 
 abbrev pub table : List Claim
 table =
-    gate AND v0 v_x v_x v0  -- P1
-    ∷ gate OR v_x v1 v_x v1  -- P2
-    ∷ gate XOR v_x v_x v_x v_x  -- P3
-    ∷ gate MUX v_x v1 v1 v1  -- P4
-    ∷ gate MUX v_x v0 v0 v0  -- P5
+    gate And v0 v_x v_x v0  -- P1
+    ∷ gate Or v_x v1 v_x v1  -- P2
+    ∷ gate Xor v_x v_x v_x v_x  -- P3
+    ∷ gate Mux v_x v1 v1 v1  -- P4
+    ∷ gate Mux v_x v0 v0 v0  -- P5
     ∷ one_case flag 0 (Fails 1 1 0 2)  -- P6
     ∷ check flag (JobAnswer.Fails (counts 2 1 1 0) 0 1 1 0 2)
     ∷ one_case flag 1 Passes  -- P7
