@@ -11,10 +11,10 @@ pub fn header(s: &[u8]) -> Size
     ensures { Headed s.now result }
 {
     Size {
-        k: byte_at(s, 5),
-        n: u16_at(s, 6),
-        e: u16_at(s, 8),
-        c: u16_at(s, 10),
+        k: usize::from(byte_at(s, 5)),
+        n: usize::from(u16_at(s, 6)),
+        e: usize::from(u16_at(s, 8)),
+        c: usize::from(u16_at(s, 10)),
     }
 }
 

@@ -8,15 +8,7 @@ ghost use Rattle.blocks.specs.Steps.{Narrow, record_ok, record_test, broken_in, 
 
 use crate::layout::{first_clauses, first_expressions, record_spot};
 use crate::numbers::{byte_at, u16_at};
-use scans::Scan;
 use stored::{Refusal, Size};
-
-// Every record keeps its rule, or the first that breaks it.
-#[derive(Clone, Copy)]
-pub enum Rules {
-    Kept,
-    Broken(Refusal),
-}
 
 // How many operands a gate has, by its code.
 const OPERANDS: [usize; 9] = [0, 0, 0, 1, 1, 2, 2, 2, 3];
@@ -33,20 +25,20 @@ fn operand_ok(n: usize, s: &[u8], at: usize, i: usize) -> bool
     requires { (at < 2 ^ 31) × (i < 3) × (byte_at s.now at ≤ 8) }
     ensures { result ≡ operand_ok n s.now at i }
 {
-    if i < operands(byte_at(s, at)) {
-        return u16_at(s, at + 2 + 2 * i) < n;
+    if i < operands(usize::from(byte_at(s, at))) {
+        return usize::from(u16_at(s, at + 2 + 2 * i)) < n;
     }
-    u16_at(s, at + 2 + 2 * i) == 0
+    usize::from(u16_at(s, at + 2 + 2 * i)) == 0
 }
 
 fn node_ok(n: usize, s: &[u8], at: usize) -> bool
     requires { at < 2 ^ 31 }
     ensures { result ≡ node_ok n s.now at }
 {
-    if byte_at(s, at) > 8 {
+    if usize::from(byte_at(s, at)) > 8 {
         return false;
     }
-    if byte_at(s, at + 1) != 0 {
+    if usize::from(byte_at(s, at + 1)) != 0 {
         return false;
     }
     if !operand_ok(n, s, at, 0) {
@@ -63,8 +55,8 @@ fn first_ok(k: usize, i: usize, s: &[u8], at: usize) -> bool
     requires { at < 2 ^ 31 }
     ensures { result ≡ first_ok k i s.now at }
 {
-    let op = byte_at(s, at);
-    let a = u16_at(s, at + 2);
+    let op = usize::from(byte_at(s, at));
+    let a = usize::from(u16_at(s, at + 2));
     if op < 2 {
         return a == 0;
     }
@@ -79,8 +71,8 @@ fn second_ok(i: usize, s: &[u8], at: usize) -> bool
     requires { at < 2 ^ 31 }
     ensures { result ≡ second_ok i s.now at }
 {
-    let b = u16_at(s, at + 4);
-    if byte_at(s, at) < 4 {
+    let b = usize::from(u16_at(s, at + 4));
+    if usize::from(byte_at(s, at)) < 4 {
         return b == 0;
     }
     b < i
@@ -90,10 +82,10 @@ fn expression_ok(k: usize, i: usize, s: &[u8], at: usize) -> bool
     requires { at < 2 ^ 31 }
     ensures { result ≡ expression_ok k i s.now at }
 {
-    if byte_at(s, at) > 6 {
+    if usize::from(byte_at(s, at)) > 6 {
         return false;
     }
-    if byte_at(s, at + 1) != 0 {
+    if usize::from(byte_at(s, at + 1)) != 0 {
         return false;
     }
     if !first_ok(k, i, s, at) {
@@ -102,26 +94,26 @@ fn expression_ok(k: usize, i: usize, s: &[u8], at: usize) -> bool
     if !second_ok(i, s, at) {
         return false;
     }
-    u16_at(s, at + 6) == 0
+    usize::from(u16_at(s, at + 6)) == 0
 }
 
 fn clause_ok(n: usize, e: usize, s: &[u8], at: usize) -> bool
     requires { at < 2 ^ 31 }
     ensures { result ≡ clause_ok n e s.now at }
 {
-    if byte_at(s, at) > 1 {
+    if usize::from(byte_at(s, at)) > 1 {
         return false;
     }
-    if byte_at(s, at + 1) > 1 {
+    if usize::from(byte_at(s, at + 1)) > 1 {
         return false;
     }
-    if u16_at(s, at + 2) >= n {
+    if usize::from(u16_at(s, at + 2)) >= n {
         return false;
     }
-    if u16_at(s, at + 4) > 255 {
+    if usize::from(u16_at(s, at + 4)) > 255 {
         return false;
     }
-    u16_at(s, at + 6) < e
+    usize::from(u16_at(s, at + 6)) < e
 }
 
 // Record `i`, at `at`, keeps the rule of the refusal `number`: 8 nodes, 9 expressions, 10 clauses.
@@ -145,25 +137,25 @@ fn record_kept(number: usize, z: Size, s: &[u8], first: usize, i: usize) -> bool
     record_ok(number, z, s, i, record_spot(first, i))
 }
 
-fn first_broken(number: usize, z: Size, s: &[u8], first: usize, count: usize) -> Scan
+fn first_broken(number: usize, z: Size, s: &[u8], first: usize, count: usize) -> Option<usize>
     requires { (first < 65536) × (count < 65536) }
     ensures { result ≡ first_bad (record_test number z s.now first) count }
 {
     let mut i: usize = 0;
     while i < count {
         if !record_kept(number, z, s, first, i) {
-            return Scan::Stopped(i);
+            return Some(i);
         }
         i += 1;
     }
-    Scan::Clear
+    None
 }
 
-fn broken_in(number: usize, first: usize, i: usize) -> Rules
+fn broken_in(number: usize, first: usize, i: usize) -> Result<(), Refusal>
     requires { first < 65536 }
     ensures { result ≡ broken_in number first i }
 {
-    Rules::Broken(Refusal {
+    Err(Refusal {
         number,
         block: first + i / 63,
         record: i % 63,
@@ -179,18 +171,18 @@ pub fn rules_kept(
     e1: usize,
     clauses: &[u8],
     c1: usize,
-) -> Rules
+) -> Result<(), Refusal>
     requires { Narrow z × (n1 < 65536) × (e1 < 65536) × (c1 < 65536) }
     ensures { Follows z nodes.now n1 expressions.now e1 clauses.now c1 result }
 {
-    if let Scan::Stopped(i) = first_broken(8, z, nodes, n1, z.n) {
+    if let Some(i) = first_broken(8, z, nodes, n1, z.n) {
         return broken_in(8, 1, i);
     }
-    if let Scan::Stopped(i) = first_broken(9, z, expressions, e1, z.e) {
+    if let Some(i) = first_broken(9, z, expressions, e1, z.e) {
         return broken_in(9, first_expressions(z), i);
     }
-    if let Scan::Stopped(i) = first_broken(10, z, clauses, c1, z.c) {
+    if let Some(i) = first_broken(10, z, clauses, c1, z.c) {
         return broken_in(10, first_clauses(z), i);
     }
-    Rules::Kept
+    Ok(())
 }
