@@ -1,2 +1,2 @@
 pub mod ChainLaws
-pub mod Decoding
+pub mod WalkLaws

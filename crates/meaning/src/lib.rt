@@ -19,9 +19,9 @@ pub enum Gate {
 #[derive(Clone, Copy)]
 pub struct Node {
     pub gate: Gate,
-    pub p: usize,
-    pub q: usize,
-    pub r: usize,
+    pub p: u16,
+    pub q: u16,
+    pub r: u16,
 }
 
 // A guard over the variables. From Not on, the operands are earlier expressions, by their place in the list.
@@ -29,11 +29,11 @@ pub struct Node {
 pub enum Expression {
     False,
     True,
-    Variable(usize),
-    Not(usize),
-    And(usize, usize),
-    Or(usize, usize),
-    Xor(usize, usize),
+    Variable(u16),
+    Not(u16),
+    And(u16, u16),
+    Or(u16, u16),
+    Xor(u16, u16),
 }
 
 #[derive(Clone, Copy, PartialEq, Eq)]
@@ -47,9 +47,9 @@ pub enum Side {
 pub struct Clause {
     pub side: Side,
     pub value: bool,
-    pub node: usize,
-    pub time: usize,
-    pub guard: usize,
+    pub node: u16,
+    pub time: u16,
+    pub guard: u16,
 }
 
 // What a case is answered. Values are numbers here: 0, 1, and 2 for X.

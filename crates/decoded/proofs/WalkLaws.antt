@@ -1,0 +1,45 @@
+-- A walk over the clauses of one time: what is left from a clause on is that clause, and what is left from the next one on.
+-- Assumes nothing.
+use Rattle.std.proofs.Common.{◌≡◌, sym, ◌∙◌, ap, true, false, ℕ, suc, ◌+◌, ◌≤◌, ◌<◌, List, [], ◌∷◌, length, drop, take, filter, slice_index_or, arith}
+use Rattle.std.proofs.lemmas.List.{get_or-take, length-take-le}
+use Rattle.std.proofs.Math.Seq.{drop-cons}
+use lib.ListN.{drop_of_length-le}
+use borrow.Author.Tests.{eqb-true}
+use native.Mathlib.Decide.{dec_lt}
+use Rattle.meaning.specs.declared.Clause.{Clause}
+use Rattle.meaning.specs.Jobs.{on}
+use Rattle.decoded.specs.Plans.{no_clause, clause_of}
+use Rattle.decoded.specs.Chains.{next_from, Chained}
+use Rattle.decoded.specs.Walks.{timed, timed_from}
+use Rattle.decoded.proofs.ChainLaws.{Next, next_is, jump}
+
+module _ (clauses : List Clause) (c t : ℕ) (long : c ≤ length clauses) where
+  size : length (take c clauses) ≡ c
+  size = length-take-le c clauses long
+
+  here : (i : ℕ) → i < c → drop i (take c clauses) ≡ clause_of clauses i ∷ drop (suc i) (take c clauses)
+  here i h = drop-cons (take c clauses) i no_clause (omega (arith, size)) ∙ ap (λ x. x ∷ drop (suc i) (take c clauses)) (get_or-take c clauses i no_clause h)
+
+  -- a clause of the time comes first
+  pub timed_here : (i : ℕ) → i < c → on (clause_of clauses i) t ≡ true → timed_from clauses c t i ≡ clause_of clauses i ∷ timed_from clauses c t (suc i)
+  timed_here i h e = rw (here i h, e)
+
+  -- another is passed over
+  timed_past : (i : ℕ) → on (clause_of clauses i) t ≡ false → timed_from clauses c t (suc i) ≡ timed_from clauses c t i
+  timed_past i e = go (dec_lt i c)
+    where
+      go : Dec (i < c) → timed_from clauses c t (suc i) ≡ timed_from clauses c t i
+      go (yes h) = sym (rw (here i h, e))
+      go (no h) = rw (drop_of_length-le (take c clauses) {i = suc i} (omega (arith, size)), drop_of_length-le (take c clauses) {i = i} (omega (arith, size)))
+
+  -- so nothing is lost on the way to the next clause of the time
+  pub timed_next : (i k : ℕ) → i ≤ c → k ≡ next_from (clause_of clauses) c t i → timed_from clauses c t k ≡ timed_from clauses c t i
+  timed_next i k h e = rw e (jump (clause_of clauses) c (λ m. timed_from clauses c t m) t timed_past i _ (next_is (clause_of clauses) c t i h))
+
+  pub on_next : (i k : ℕ) → i ≤ c → k ≡ next_from (clause_of clauses) c t i → k < c → on (clause_of clauses k) t ≡ true
+  on_next i k h e = rw e (next_is (clause_of clauses) c t i h).here
+
+  -- a clause of the time knows the next one
+  pub next_after : {heads nexts : List ℕ} (i k : ℕ) → Chained (clause_of clauses) c 0 heads nexts → i < c → on (clause_of clauses i) t ≡ true → k ≡ slice_index_or nexts i 0 → k ≡ next_from (clause_of clauses) c t (suc i)
+  unfolding on
+  next_after i k chained h e q = q ∙ chained.next i (omega arith) h ∙ ap (λ u. next_from (clause_of clauses) c u (suc i)) (eqb-true _ _ e)
