@@ -1,6 +1,6 @@
 -- A walk over the clauses of one time: what is left from a clause on is that clause, and what is left from the next one on.
 -- Assumes nothing.
-use Rattle.std.proofs.Common.{◌≡◌, sym, ◌∙◌, ap, true, false, ℕ, suc, ◌+◌, ◌≤◌, ◌<◌, List, [], ◌∷◌, length, drop, take, filter, slice_index_or, arith}
+use Rattle.std.proofs.Common.{◌≡◌, sym, ◌∙◌, ap, true, false, ℕ, suc, ◌≤◌, ◌<◌, List, ◌∷◌, length, drop, take, slice_index_or, arith}
 use Rattle.std.proofs.lemmas.List.{get_or-take, length-take-le}
 use Rattle.std.proofs.Math.Seq.{drop-cons}
 use lib.ListN.{drop_of_length-le}
@@ -10,8 +10,8 @@ use Rattle.meaning.specs.declared.Clause.{Clause}
 use Rattle.meaning.specs.Jobs.{on}
 use Rattle.decoded.specs.Plans.{no_clause, clause_of}
 use Rattle.decoded.specs.Chains.{next_from, Chained}
-use Rattle.decoded.specs.Walks.{timed, timed_from}
-use Rattle.decoded.proofs.ChainLaws.{Next, next_is, jump}
+use Rattle.decoded.specs.Walks.{timed_from}
+use Rattle.decoded.proofs.ChainLaws.{next_is, jump}
 
 module _ (clauses : List Clause) (c t : ℕ) (long : c ≤ length clauses) where
   size : length (take c clauses) ≡ c

@@ -1,3 +1,4 @@
 pub mod Chains
 pub mod Plans
 pub mod Walks
+pub mod Meant

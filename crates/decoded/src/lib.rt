@@ -11,7 +11,6 @@ ghost use Rattle.decoded.specs.Plans.{clause_of, Decoded};
 
 use crate::chains::{chained, last_time};
 pub use crate::walk::ClausesAt;
-
 use meaning::{Clause, Expression, Node};
 use stored::Size;
 

@@ -1,6 +1,6 @@
 -- The head of a time is its first clause.
 -- Assumes nothing.
-use Rattle.std.proofs.Common.{◌≡◌, ◌∙◌, ◌≤◌, length, arith}
+use Rattle.std.proofs.Common.{◌∙◌, arith}
 use Rattle.decoded.proofs.WalkLaws.{timed_next, on_next}
 use Rattle.decoded.proofs.Plan.clauses_at.Goals as goal
 

@@ -1,6 +1,6 @@
 -- The clauses from the loop's place on are chained.
 -- Assumes nothing.
-use Rattle.std.proofs.Common.{◌<◌, ◌-◌, refl, arith, rules, slice_index_or}
+use Rattle.std.proofs.Common.{◌-◌, refl, arith}
 use Rattle.decoded.specs.Plans.{clause_of}
 use Rattle.decoded.proofs.ChainLaws.{chain_none, chain_down}
 use Rattle.decoded.proofs.chains.chained.Goals as goal

@@ -1,6 +1,6 @@
 -- The last time so far is that of the clauses passed.
 -- Assumes nothing.
-use Rattle.std.proofs.Common.{◌≡◌, ◌∙◌, ◌<◌, ap, arith, length}
+use Rattle.std.proofs.Common.{◌≡◌, ◌∙◌, ap, arith}
 use Rattle.std.proofs.lemmas.List.{get_or-take, length-take-le}
 use Rattle.meaning.specs.declared.Clause.{Clause}
 use Rattle.meaning.specs.Jobs.{latest}

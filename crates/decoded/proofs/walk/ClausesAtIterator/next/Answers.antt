@@ -1,6 +1,6 @@
 -- A clause's next is the next of its time.
 -- Assumes nothing.
-use Rattle.std.proofs.Common.{◌≡◌, ◌∙◌, ◌∷◌, ◌<◌, ◌≤◌, sym, ap, suc, length, arith, rules}
+use Rattle.std.proofs.Common.{◌∙◌, ◌∷◌, ◌<◌, sym, ap, suc, arith}
 use Rattle.std.proofs.lemmas.Grind.{common_steps}
 use Rattle.decoded.specs.Plans.{clause_of}
 use Rattle.decoded.proofs.WalkLaws.{timed_here, timed_next, on_next, next_after}
