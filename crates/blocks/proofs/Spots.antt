@@ -51,7 +51,7 @@ module _ (s t : List ℕ) (a b : ℕ) (same : (f : ℕ) → f < 8 → byte_at s 
   clause_same n e = rw (half 2 (omega arith), half 4 (omega arith), half 6 (omega arith), flag, code)
 
 -- a record in the blocks, and the same in the list taken out of them
-in_blocks : (s : List ℕ) (first m i : ℕ) → i < m → (f : ℕ) → f < 8 → byte_at s (spot (Some first) i + f) ≡ byte_at (list_of (record_byte s first) (8 * m)) (8 * i + f)
+pub in_blocks : (s : List ℕ) (first m i : ℕ) → i < m → (f : ℕ) → f < 8 → byte_at s (spot (Some first) i + f) ≡ byte_at (list_of (record_byte s first) (8 * m)) (8 * i + f)
 unfolding record_byte
 in_blocks s first m i l f g =
     let b : (8 * i + f) / 504 ≡ i / 63 = omega arith in

@@ -101,18 +101,25 @@ pub struct Listed<'a> {
 }
 
 impl<'a> Listed<'a> {
+    // Where record `i` stands.
+    pub fn place(self, i: usize) -> usize
+        requires { i < 65536 }
+        ensures { (result ≡ spot self.entry.first i) × (result < 2 ^ 31) }
+    {
+        match self.first {
+            None => 8 * i,
+            Some(first) => 512 * (first + i / 63) + 4 + 8 * (i % 63),
+        }
+    }
+
     fn record(self, i: usize) -> Record<'a>
         requires { i < 65536 }
         ensures bytes { result.bytes.now ≡ self.entry.bytes.now }
         ensures place { result.at ≡ spot self.entry.first i }
     {
-        let at = match self.first {
-            None => 8 * i,
-            Some(first) => 512 * (first + i / 63) + 4 + 8 * (i % 63),
-        };
         Record {
             bytes: self.bytes,
-            at,
+            at: self.place(i),
         }
     }
 }
