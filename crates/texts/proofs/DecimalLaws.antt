@@ -1,7 +1,7 @@
 -- The decimal digits of a number: those of its tenth part and one more, and how many.
 -- Assumes nothing.
 use borrow.Author.Tests.{ltb-false, lt-ltb, le-ltb}
-use mathlib.Core.Path.{◌≡◌, refl, ◌∙◌, ap}
+use mathlib.Core.Path.{◌≡◌, refl, sym, ◌∙◌, ap}
 use mathlib.Core.Bool.{Bool, true, false, cond}
 use mathlib.Core.List.{[], ◌∷◌, ◌++◌}
 use native.Mathlib.Decide.{dec_lt}
@@ -9,6 +9,8 @@ use native.Mathlib.Omega.{arith}
 use Prim.Native.Nat.{ℕ, zero, suc, ◌+◌, ◌/◌, ◌%◌, ◌^◌, ◌≤◌, ◌<◌}
 use lib.Dec.{ltb}
 use lib.ListN.{length, length-append}
+use Rattle.std.specs.Fmt.{decimal as std_decimal}
+use Rattle.std.proofs.lemmas.Fmt.{AppendsLastDigit, decimal_from_appends, length-decimal-le_succ}
 use Rattle.texts.specs.Decimals.{digit, digits, decimal}
 
 -- any bound above x gives the same digits
@@ -48,3 +50,8 @@ decimal_most (suc k) x h = go (dec_lt x 10) (decimal_most k (x / 10))
 -- a number of 64 bits has at most twenty
 pub decimal_length : (x : ℕ) → x < 2 ^ 64 → length (decimal x) ≤ 20
 decimal_length x h = decimal_most 19 x (omega arith)
+
+-- the library writes a number of 64 bits in these digits
+pub std_decimal_is : (x : ℕ) → x < 2 ^ 64 → std_decimal x ≡ decimal x
+unfolding decimal digits
+std_decimal_is x h = sym (decimal_from_appends digits (record { one = λ k n l. rw (lt-ltb n 10 l); more = λ k n l. rw (le-ltb n 10 l) }) (suc x) x h (omega (arith, length-decimal-le_succ x h)))
