@@ -16,7 +16,7 @@ use texts::{Line, put_text};
 fn push_counts(line: &mut Line, counts: Counts)
     requires { length line.old.bytes + 112 ≤ 256 }
     ensures is { line.new.bytes ≡ line.old.bytes ++ counts_text counts }
-    ensures short { length line.new.bytes ≤ length line.old.bytes + 112 }
+    ensures short { length (counts_text counts) ≤ 112 }
 {
     push_field(line, " cases=", counts.cases);
     push_field(line, " passing=", counts.passing);
@@ -28,7 +28,7 @@ fn push_counts(line: &mut Line, counts: Counts)
 fn push_place(line: &mut Line, case: usize, time: usize, node: usize)
     requires { length line.old.bytes + 78 ≤ 256 }
     ensures is { line.new.bytes ≡ line.old.bytes ++ place case time node }
-    ensures short { length line.new.bytes ≤ length line.old.bytes + 78 }
+    ensures short { length (place case time node) ≤ 78 }
 {
     push_field(line, " case=", case);
     push_field(line, " time=", time);
@@ -39,7 +39,7 @@ fn push_place(line: &mut Line, case: usize, time: usize, node: usize)
 fn push_missed(line: &mut Line, wanted: usize, found: usize)
     requires { length line.old.bytes + 55 ≤ 256 }
     ensures is { line.new.bytes ≡ line.old.bytes ++ missed wanted found }
-    ensures short { length line.new.bytes ≤ length line.old.bytes + 55 }
+    ensures short { length (missed wanted found) ≤ 55 }
 {
     push_field(line, " wanted=", wanted);
     line.push_str(" found=");

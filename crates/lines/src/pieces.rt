@@ -10,7 +10,7 @@ use texts::{Line, push_number};
 pub fn push_field(line: &mut Line, name: &str, x: usize)
     requires { length line.old.bytes + (length name.now + 20) ≤ 256 }
     ensures is { line.new.bytes ≡ line.old.bytes ++ (name.now ++ decimal x) }
-    ensures short { length line.new.bytes ≤ length line.old.bytes + (length name.now + 20) }
+    ensures short { length (decimal x) ≤ 20 }
 {
     line.push_str(name);
     push_number(line, x);
@@ -21,7 +21,7 @@ pub fn push_field(line: &mut Line, name: &str, x: usize)
 pub fn push_value(line: &mut Line, v: usize)
     requires { length line.old.bytes + 20 ≤ 256 }
     ensures is { line.new.bytes ≡ line.old.bytes ++ value v }
-    ensures short { length line.new.bytes ≤ length line.old.bytes + 20 }
+    ensures short { length (value v) ≤ 20 }
 {
     if v == 2 {
         line.push_str("X");

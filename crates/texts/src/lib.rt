@@ -25,7 +25,7 @@ pub fn put_text(text: &[u8], line: &mut [u8], at: usize) -> usize
 pub fn push_number(line: &mut Line, x: usize)
     requires { length line.old.bytes + length (decimal x) ≤ 256 }
     ensures is { line.new.bytes ≡ line.old.bytes ++ decimal x }
-    ensures short { length line.new.bytes ≤ length line.old.bytes + 20 }
+    ensures short { length (decimal x) ≤ 20 }
 {
     let mut digits = Buffer::new();
     line.push_str(digits.format(x));
