@@ -23,7 +23,7 @@ use Rattle.verdicts.specs.Running.{stated_checked}
 use Rattle.texts.specs.Texts.{text}
 use Rattle.texts.specs.Decimals.{digit, decimal}
 use Rattle.lines.specs.Lines.{field, value, counts, place, missed, verdict_line, refusal_line, checked_line}
-use Rattle.texts.proofs.DecimalLaws.{decimal_small, decimal_more}
+use Rattle.texts.proofs.DecimalLaws.{by_digits}
 
 is_digit : ℕ → Bool
 is_digit b = leb 48 b && ltb b 58
@@ -48,19 +48,13 @@ unfolding is_digit
 digit_is d h = rw (le-leb 48 (48 + d) (omega arith), lt-ltb (48 + d) 58 (omega arith))
 
 -- the digits of a number are read as that number
-decimal_read : (n x : ℕ) → x < n → (s : List ℕ) → numbers none (decimal x ++ s) ≡ numbers (some x) s
-unfolding numbers
-decimal_read zero x h s = absurd (omega arith)
-decimal_read (suc n) x h s = go (dec_lt x 10) (decimal_read n (x / 10))
-  where
-    go : Dec (x < 10) → (x / 10 < n → (s : List ℕ) → numbers none (decimal (x / 10) ++ s) ≡ numbers (some (x / 10)) s) → numbers none (decimal x ++ s) ≡ numbers (some x) s
-    go (yes l) ih = let e : 48 + x - 48 ≡ x = omega arith in rw (decimal_small x l, digit_is x l, e)
-    go (no l) ih =
-        let e : 10 * (x / 10) + (48 + x % 10 - 48) ≡ x = omega arith in
-        rw (decimal_more x (omega arith), append_snoc (decimal (x / 10)) (digit (x % 10)) s, ih (omega arith) (digit (x % 10) ∷ s), digit_is (x % 10) (omega arith), e)
-
 number_read : (x : ℕ) (s : List ℕ) → numbers none (decimal x ++ s) ≡ numbers (some x) s
-number_read x = decimal_read (suc x) x (omega arith)
+unfolding numbers
+number_read = by_digits (λ x ds. (s : List ℕ) → numbers none (ds ++ s) ≡ numbers (some x) s)
+    (λ x l s. let e : 48 + x - 48 ≡ x = omega arith in rw (digit_is x l, e))
+    (λ x ds h ih s.
+        let e : 10 * (x / 10) + (48 + x % 10 - 48) ≡ x = omega arith in
+        rw (append_snoc ds (digit (x % 10)) s, ih (digit (x % 10) ∷ s), digit_is (x % 10) (omega arith), e))
 
 -- a text without digits and X is passed over
 quiet : List ℕ → Bool

@@ -97,27 +97,25 @@ fn refusal(r: Refusal) -> Line
 }
 
 // The whole line at the front of `out`, and its length; nothing, and 0, where it does not fit.
-fn give(line: &[u8], out: &mut [u8]) -> usize
-    ensures { Gives line.now out.old out.new result }
+fn give(line: &Line, out: &mut [u8]) -> usize
+    ensures { Gives line.now.bytes out.old out.new result × (length line.now.bytes ≤ 256) }
 {
     if out.len() < line.len() {
         return 0;
     }
-    put_text(line, out, 0)
+    put_text(line.as_str().as_bytes(), out, 0)
 }
 
 // The line of an answer, for which 256 bytes are enough.
 pub fn verdict_line(a: JobAnswer, out: &mut [u8]) -> usize
     ensures { Gives (verdict_line a) out.old out.new result × (length (verdict_line a) ≤ 256) }
 {
-    let line = verdict(a);
-    give(line.as_str().as_bytes(), out)
+    give(&verdict(a), out)
 }
 
 // The line of a refusal, for which 256 bytes are enough.
 pub fn refusal_line(r: Refusal, out: &mut [u8]) -> usize
     ensures { Gives (refusal_line r.number r.block r.«record») out.old out.new result × (length (refusal_line r.number r.block r.«record») ≤ 256) }
 {
-    let line = refusal(r);
-    give(line.as_str().as_bytes(), out)
+    give(&refusal(r), out)
 }

@@ -2,7 +2,8 @@
 -- Assumes nothing.
 use borrow.Author.Tests.{lt-ltb}
 use mathlib.Core.Path.{◌≡◌, sym}
-use mathlib.Core.List.{[], ◌∷◌, ◌++◌}
+use native.Mathlib.Decide.{dec_lt}
+use mathlib.Core.List.{List, [], ◌∷◌, ◌++◌}
 use native.Mathlib.Omega.{arith}
 use Prim.Native.Nat.{ℕ, zero, suc, ◌/◌, ◌%◌, ◌^◌, ◌≤◌, ◌<◌}
 use lib.ListN.{length}
@@ -35,3 +36,15 @@ std_decimal_is x h = sym (decimal_from_appends digits (search rules) (suc x) x h
 -- of which there are at most twenty
 pub decimal_length : (x : ℕ) → x < 2 ^ 64 → length (decimal x) ≤ 20
 decimal_length x h = rw (sym (std_decimal_is x h)) (length-decimal-le 20 x (omega arith) (omega arith) h)
+
+-- what holds of one digit, and of one more after those of the tenth part
+pub by_digits : (P : ℕ → List ℕ → Type 0) → ((x : ℕ) → x < 10 → P x (digit x ∷ [])) → ((x : ℕ) (s : List ℕ) → 10 ≤ x → P (x / 10) s → P x (s ++ digit (x % 10) ∷ [])) → (x : ℕ) → P x (decimal x)
+by_digits P one more x = go (suc x) x (omega arith)
+  where
+    go : (n x : ℕ) → x < n → P x (decimal x)
+    go zero x h = absurd (omega arith)
+    go (suc n) x h = step (dec_lt x 10) (go n (x / 10))
+      where
+        step : Dec (x < 10) → (x / 10 < n → P (x / 10) (decimal (x / 10))) → P x (decimal x)
+        step (yes l) ih = rw (decimal_small x l) (one x l)
+        step (no l) ih = rw (decimal_more x (omega arith)) (more x (decimal (x / 10)) (omega arith) (ih (omega arith)))
