@@ -1,4 +1,5 @@
 // The line that the check prints for an answer or a refusal: its bytes, with the newline that ends it.
+// Pushed piece by piece: no contract says that a `write!` succeeds, and a line that fits has to be given.
 #![tactic(auto)]
 
 mod pieces;
