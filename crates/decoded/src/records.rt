@@ -1,5 +1,5 @@
 // Records read as values: what the eight bytes of a node, an expression or a clause say.
-ghost use Rattle.std.specs.Prelude.{◌≡◌, ◌*◌, ◌^◌, ◌<◌, List, ℕ, [], ◌∷◌, get_or};
+ghost use Rattle.std.specs.Prelude.{◌≡◌, ◌*◌, ◌^◌, ◌<◌, List, ℕ, [], ◌∷◌, get_or, slice_index_or, length, ◌≤◌};
 ghost use Rattle.scans.specs.Lists.{list_of};
 ghost use Rattle.stored.specs.Layout.{record_byte};
 ghost use Rattle.stored.specs.Decoding.{node_at, expression_at, clause_at};
@@ -93,7 +93,7 @@ impl Decode for Clause {
 }
 
 // Record `i` of the `count` that begin in block `first` of a job; past them, what a record of zeros says.
-pub fn record<R: Decode>(job: &[u8], first: usize, count: usize, i: usize) -> R
+fn record<R: Decode>(job: &[u8], first: usize, count: usize, i: usize) -> R
     requires { (first < 65536) × (i < 65536) }
     ensures { result ≡ R.value_at (list_of (record_byte job.now first) (8 * count)) (8 * i) }
 {
@@ -105,4 +105,20 @@ pub fn record<R: Decode>(job: &[u8], first: usize, count: usize, i: usize) -> R
         first: Some(first),
     };
     R::decode(job, list.place(i))
+}
+
+// The first N records of those.
+pub fn decode_list<R: Decode + Copy, const N: usize>(
+    job: &[u8],
+    first: usize,
+    count: usize,
+) -> [R; N]
+    requires { (first < 65536) × (N ≤ 65536) }
+    ensures { (i : ℕ) (d : R) → i < N → slice_index_or result i d ≡ R.value_at (list_of (record_byte job.now first) (8 * count)) (8 * i) }
+{
+    let mut list = [R::decode(&[], 0); N];
+    for (i, value) in list.iter_mut().enumerate() {
+        *value = record(job, first, count, i);
+    }
+    list
 }
