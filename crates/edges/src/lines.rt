@@ -1,86 +1,85 @@
-// The lines of tests: where one ends, its group and its numbers.
-ghost use Rattle.std.specs.Prelude.{◌<◌, ◌≤◌, length};
+// The lines of tests: what a line asks, and its numbers.
+use crate::shape::{Kind, Shape};
 
-use crate::bytes::same;
+// What a line asks.
+#[derive(Clone, Copy)]
+pub enum Test {
+    Length,
+    Sized,
+    AllZeroBlock,
+    Flipped,
+    Exchanged,
+    Edited(Shape),
+    EditedTwice(Shape),
+    WrongFrom,
+    Record(Kind),
+    PackVariables,
+    Pack,
+    Repack,
+    Flag,
+    Unpack,
+}
 
-// Where the line that starts at `from` ends: at its newline, or at the last byte.
-pub fn line_end(s: &[u8], from: usize) -> usize
-    requires { from < length s.now }
-    ensures { (from ≤ result) × (result < length s.now) }
-{
-    let last = s.len() - 1;
-    let mut i = from;
-    while i < last {
-        if s[i] == b'\n' {
-            return i;
+// What a line begins with; of two names that fit, the first counts.
+const NAMES: [(&[u8], Test); 18] = [
+    (b"length ", Test::Length),
+    (b"job ", Test::Sized),
+    (b"all-zero-block ", Test::AllZeroBlock),
+    (b"flipped ", Test::Flipped),
+    (b"exchanged ", Test::Exchanged),
+    (b"full ", Test::Edited(Shape::FULL)),
+    (b"spare ", Test::Edited(Shape::SPARE)),
+    (b"twice full ", Test::EditedTwice(Shape::FULL)),
+    (b"twice spare ", Test::EditedTwice(Shape::SPARE)),
+    (b"wrong-from ", Test::WrongFrom),
+    (b"node ", Test::Record(Kind::Node)),
+    (b"expression ", Test::Record(Kind::Expression)),
+    (b"clause ", Test::Record(Kind::Clause)),
+    (b"pack k ", Test::PackVariables),
+    (b"pack ", Test::Pack),
+    (b"repack ", Test::Repack),
+    (b"flag", Test::Flag),
+    (b"unpack ", Test::Unpack),
+];
+
+impl Test {
+    pub fn of(line: &[u8]) -> Option<Test> {
+        NAMES
+            .iter()
+            .find(|(name, _)| line.starts_with(name))
+            .map(|(_, test)| *test)
+    }
+}
+
+// The last seven numbers of a line, with zeros before them.
+#[derive(Clone, Copy)]
+pub struct Row {
+    // each by its low sixteen bits
+    pub numbers: [u16; 7],
+    // the last of them whole
+    pub last: usize,
+}
+
+impl From<&[u8]> for Row {
+    fn from(line: &[u8]) -> Row {
+        let mut row = [0; 7];
+        for (number, word) in row.iter_mut().rev().zip(line.rsplit(|b| *b == b' ')) {
+            *number = number_of(word);
         }
-        i += 1;
-    }
-    i
-}
-
-pub fn begins(line: &[u8], name: &[u8]) -> bool {
-    same(line, name, name.len())
-}
-
-// Numbers to 2^64 - 1; from the bound on, ten times `x` would not fit.
-fn with_digit(x: usize, digit: u8) -> usize {
-    if x < 1844674407370955162 {
-        std::num::wrapping_add_usize(10 * x, (digit % 16) as usize)
-    } else {
-        0
+        Row {
+            numbers: row.map(|number| (number % 65536) as u16),
+            last: row[6],
+        }
     }
 }
 
-// A digit goes to the last number, and a space makes room for the next.
-fn with_byte(row: [usize; 7], b: u8) -> [usize; 7] {
-    match b {
-        b' ' => [row[1], row[2], row[3], row[4], row[5], row[6], 0],
-        b'0'..=b'9' => [
-            row[0],
-            row[1],
-            row[2],
-            row[3],
-            row[4],
-            row[5],
-            with_digit(row[6], b),
-        ],
-        _ => row,
-    }
-}
-
-// The numbers of a line, with zeros before them: the last number is `row[6]`.
-fn numbers(line: &[u8]) -> [usize; 7] {
-    let mut row: [usize; 7] = [0; 7];
-    let mut i: usize = 0;
-    while i < line.len() {
-        let next = with_byte(row, line[i]);
-        row = next;
-        i += 1;
-    }
-    row
-}
-
-// The last number of a line, which may not fit sixteen bits.
-pub fn last_of(line: &[u8]) -> usize {
-    let row = numbers(line);
-    row[6]
-}
-
-fn low(x: usize) -> u16 {
-    (x % 65536) as u16
-}
-
-// The numbers of a line, which fit sixteen bits.
-pub fn row_of(line: &[u8]) -> [u16; 7] {
-    let row = numbers(line);
-    [
-        low(row[0]),
-        low(row[1]),
-        low(row[2]),
-        low(row[3]),
-        low(row[4]),
-        low(row[5]),
-        low(row[6]),
-    ]
+// The number that the digits of a word make; one past 2^64 - 1 begins anew.
+fn number_of(word: &[u8]) -> usize {
+    word.iter()
+        .filter(|b| b.is_ascii_digit())
+        .fold(0, |number: usize, digit| {
+            number
+                .checked_mul(10)
+                .map_or(0, |tens| { tens.wrapping_add(usize::from(*digit % 16)) })
+        })
 }
