@@ -1,5 +1,5 @@
 // A job built by document 01's layout alone. What lies outside its bytes reads as 0 and is not stored.
-ghost use Rattle.std.specs.Prelude.{◌≡◌, slice_set};
+ghost use Rattle.std.specs.Prelude.{◌≡◌, ◌+◌, ◌<◌, ◌≤◌, ◌++◌, length, take, drop, replicate};
 
 use crate::bytes::front;
 use crate::shape::{Kind, Record, Shape, low_byte, place, spot, word_place};
@@ -32,7 +32,7 @@ pub struct Job {
 impl Job {
     pub fn new() -> Job {
         Job {
-            shape: Shape::from([0; 4]),
+            shape: Shape::default(),
             bytes: [0; 65536],
         }
     }
@@ -54,15 +54,14 @@ impl Job {
         for i in 0..shape.count(kind) {
             let block = first + i / 63;
             self.put_record(kind, i, shape.sample(kind, i));
-            self.put(place(block, 2), kind as u8);
-            self.put(place(block, 3), (i % 63 + 1) as u8);
+            self.put(place(block, 2), [kind as u8, (i % 63 + 1) as u8]);
         }
     }
 
     // Numbers the blocks, and makes the words of each add up.
     pub fn seal(&mut self, blocks: u16) {
         for block in 0..blocks {
-            self.put_bytes(place(block, 0), block.to_le_bytes());
+            self.put(place(block, 0), block.to_le_bytes());
             self.mend(block);
         }
     }
@@ -82,31 +81,31 @@ impl Job {
         }
     }
 
-    fn put(&mut self, at: usize, byte: u8)
-        ensures { self.new.bytes ≡ slice_set self.old.bytes at byte }
+    fn put<const N: usize>(&mut self, at: usize, bytes: [u8; N])
+        ensures inside { at + N ≤ length self.old.bytes → self.new.bytes ≡ take at self.old.bytes ++ bytes.entry ++ drop (at + N) self.old.bytes }
+        ensures outside { length self.old.bytes < at + N → self.new.bytes ≡ self.old.bytes }
+        ensures shape { self.new.shape ≡ self.old.shape }
     {
-        if at < self.bytes.len() {
-            self.bytes[at] = byte;
+        let size = self.bytes.len();
+        if N <= size && at <= size - N {
+            self.bytes[at..at + N].copy_from_slice(&bytes);
         }
     }
 
-    fn put_bytes<const N: usize>(&mut self, at: usize, bytes: [u8; N]) {
-        if let Some(rest) = self.bytes.get_mut(at..)
-            && let Some(to) = rest.first_chunk_mut()
+    fn get<const N: usize>(&self, at: usize) -> [u8; N]
+        ensures inside { at + N ≤ length self.now.bytes → result ≡ take N (drop at self.now.bytes) }
+        ensures outside { length self.now.bytes < at + N → result ≡ replicate N 0 }
+    {
+        if let Some(rest) = self.bytes.get(at..)
+            && let Some(bytes) = rest.first_chunk()
         {
-            *to = bytes;
+            return *bytes;
         }
-    }
-
-    fn bytes_at<const N: usize>(&self, at: usize) -> [u8; N] {
-        self.bytes
-            .get(at..)
-            .and_then(|rest| rest.first_chunk().copied())
-            .unwrap_or([0; N])
+        [0; N]
     }
 
     pub fn edit(&mut self, edit: Edit) {
-        self.put(place(edit.block, edit.offset), edit.byte);
+        self.put(place(edit.block, edit.offset), [edit.byte]);
     }
 
     // A byte put in a block, whose check is then mended.
@@ -123,10 +122,10 @@ impl Job {
 
     pub fn exchange_words(&mut self, block: u16, a: u16, b: u16) {
         let (a, b) = (word_place(block, a), word_place(block, b));
-        let was: [u8; 4] = self.bytes_at(a);
-        let other: [u8; 4] = self.bytes_at(b);
-        self.put_bytes(a, other);
-        self.put_bytes(b, was);
+        let was: [u8; 4] = self.get(a);
+        let other: [u8; 4] = self.get(b);
+        self.put(a, other);
+        self.put(b, was);
     }
 
     // Every byte from a block on becomes 0.
@@ -137,11 +136,11 @@ impl Job {
     }
 
     pub fn put_record(&mut self, kind: Kind, i: u16, record: Record) {
-        self.put_bytes(spot(self.shape.first_block(kind), i), record.to_bytes());
+        self.put(spot(self.shape.first_block(kind), i), record.to_bytes());
     }
 
     pub fn record(&self, kind: Kind, i: u16) -> [u8; 8] {
-        self.bytes_at(spot(self.shape.first_block(kind), i))
+        self.get(spot(self.shape.first_block(kind), i))
     }
 
     // The records of a kind, in a list by themselves.
@@ -155,15 +154,13 @@ impl Job {
 
     // A list begins with the records of a kind.
     pub fn is_in(&self, kind: Kind, list: &[u8]) -> bool {
+        let count = self.shape.count(kind);
         let (records, _) = list.as_chunks();
-        records
-            .get(..usize::from(self.shape.count(kind)))
-            .is_some_and(|records| {
-                records
-                    .iter()
-                    .zip(0..u16::MAX)
-                    .all(|(record, i)| *record == self.record(kind, i))
-            })
+        records.len() >= usize::from(count)
+            && records
+                .iter()
+                .zip(0..count)
+                .all(|(record, i)| *record == self.record(kind, i))
     }
 
     pub fn first_bytes(&self, size: usize) -> &[u8] {
@@ -205,7 +202,7 @@ impl Job {
     }
 
     fn put_block<const N: usize>(&mut self, block: u16, used: [u8; N], check: [u8; 4]) {
-        self.put_bytes(place(block, 0), used);
-        self.put_bytes(place(block, 508), check);
+        self.put(place(block, 0), used);
+        self.put(place(block, 508), check);
     }
 }

@@ -5,33 +5,38 @@ use crate::reading::reading;
 use crate::shape::{Kind, Shape, records_size};
 use crate::show::{Answer, Kept, Packing, RoundTrip, Same, packed};
 use crate::unpacking::unpack;
-use stored::Refusal;
 
 // Room in an output for the largest job and two blocks more.
 const ROOM: usize = 17920;
 
-// What packing answered, and whether it left the rest of its output alone.
-fn packing(answer: Result<usize, Refusal>, out: &[u8]) -> Packing {
+// Packs three lists into the first `room` bytes of an output, and says whether the rest of it was left alone.
+fn pack(k: usize, lists: [&[u8]; 3], room: u16, out: &mut [u8]) -> Packing {
+    let [nodes, expressions, clauses] = lists;
+    let answer = packed(jobs::pack(
+        k,
+        nodes,
+        expressions,
+        clauses,
+        front_mut(out, usize::from(room)),
+    ));
     Packing {
         answer,
         kept: Kept(is_kept(out, answer.unwrap_or(0))),
     }
 }
 
-// Packs the records of a job into the first `room` bytes of an output.
+// Packs the records of a job.
 fn repack(job: &Job, room: u16, out: &mut [u8]) -> Packing {
     let Shape { k, n, e, c } = job.shape;
     let nodes: [[u8; 8]; 1008] = job.records(Kind::Node);
     let expressions: [[u8; 8]; 504] = job.records(Kind::Expression);
     let clauses: [[u8; 8]; 504] = job.records(Kind::Clause);
-    let answer = packed(jobs::pack(
-        usize::from(k),
+    let lists = [
         front(&nodes, usize::from(n)).as_flattened(),
         front(&expressions, usize::from(e)).as_flattened(),
         front(&clauses, usize::from(c)).as_flattened(),
-        front_mut(out, usize::from(room)),
-    ));
-    packing(answer, out)
+    ];
+    pack(usize::from(k), lists, room, out)
 }
 
 // What reading a job answers, and packing its records into an output of `room` bytes.
@@ -41,19 +46,12 @@ pub fn read_and_pack(job: &Job, room: u16) -> Answer {
     Answer::ReadAndPacked(reading(job.stored()), packing)
 }
 
-// Packs three lists of zeros, of the sizes that are given, into the first `room` bytes of an output.
+// Packs three lists of zeros, of the sizes that are given.
 pub fn zeros(k: usize, sizes: [u16; 3], room: u16) -> Answer {
-    let [nodes, expressions, clauses] = sizes.map(usize::from);
-    let list = [0u8; 8080];
+    let zeros = [0; 8080];
     let mut out = [MARK; ROOM];
-    let answer = packed(jobs::pack(
-        k,
-        front(&list, nodes),
-        front(&list, expressions),
-        front(&list, clauses),
-        front_mut(&mut out, usize::from(room)),
-    ));
-    Answer::Packed(packing(answer, &out))
+    let lists = sizes.map(|size| front(&zeros, usize::from(size)));
+    Answer::Packed(pack(k, lists, room, &mut out))
 }
 
 // What is packed is the job, byte for byte, and unpacks to the same records.

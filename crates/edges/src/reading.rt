@@ -66,88 +66,17 @@ pub fn record(job: &mut Job, kind: Kind, i: u16, record: Record) -> Answer {
     read_and_pack(job, 16896)
 }
 
-// What makes a job be refused.
-#[derive(Clone, Copy)]
-struct Wrong {
-    edit: Edit,
-    // the block whose check is mended
-    mended: u16,
-}
-
-// What makes a job be refused with each number from 2 on; for 2 the check of another block is mended.
-const WRONGS: [Wrong; 9] = [
-    Wrong {
-        edit: Edit {
-            block: 6,
-            offset: 511,
-            byte: 0,
-        },
-        mended: 0,
-    },
-    Wrong {
-        edit: Edit {
-            block: 5,
-            offset: 0,
-            byte: 9,
-        },
-        mended: 5,
-    },
-    Wrong {
-        edit: Edit {
-            block: 0,
-            offset: 4,
-            byte: 2,
-        },
-        mended: 0,
-    },
-    Wrong {
-        edit: Edit {
-            block: 0,
-            offset: 6,
-            byte: 63,
-        },
-        mended: 0,
-    },
-    Wrong {
-        edit: Edit {
-            block: 6,
-            offset: 3,
-            byte: 2,
-        },
-        mended: 6,
-    },
-    Wrong {
-        edit: Edit {
-            block: 6,
-            offset: 507,
-            byte: 1,
-        },
-        mended: 6,
-    },
-    Wrong {
-        edit: Edit {
-            block: 2,
-            offset: 4,
-            byte: 9,
-        },
-        mended: 2,
-    },
-    Wrong {
-        edit: Edit {
-            block: 3,
-            offset: 500,
-            byte: 7,
-        },
-        mended: 3,
-    },
-    Wrong {
-        edit: Edit {
-            block: 5,
-            offset: 4,
-            byte: 2,
-        },
-        mended: 5,
-    },
+// What makes a job be refused with each number from 2 on: block, offset, byte, and the block whose check is mended, for 2 another.
+const WRONGS: [(u16, u16, u8, u16); 9] = [
+    (6, 511, 0, 0),
+    (5, 0, 9, 5),
+    (0, 4, 2, 0),
+    (0, 6, 63, 0),
+    (6, 3, 2, 6),
+    (6, 507, 1, 6),
+    (2, 4, 9, 2),
+    (3, 500, 7, 3),
+    (5, 4, 2, 5),
 ];
 
 // From 10, with a new job, down to 1: each adds to what is wrong already.
@@ -159,9 +88,14 @@ pub fn wrong_from(job: &mut Job, number: usize) -> Answer {
     if index >= last {
         job.build(Shape::SPARE);
     }
-    let wrong = WRONGS[index.min(last)];
-    job.edit(wrong.edit);
-    job.mend(wrong.mended);
+    let (block, offset, byte, mended) = WRONGS[index.min(last)];
+    job.edit(Edit {
+        block,
+        offset,
+        byte,
+    });
+    job.mend(mended);
+    // the line before may have built another
     job.shape = Shape::SPARE;
     read_and_pack(job, 0)
 }

@@ -1,5 +1,5 @@
 // Where document 01 puts a job's blocks and records, and records that keep its rules. Nothing here is of the library under test.
-ghost use Rattle.std.specs.Prelude.{◌≡◌, ◌+◌, ◌-◌, ◌*◌, ◌/◌, ◌%◌, ◌<◌, slice_index};
+ghost use Rattle.std.specs.Prelude.{◌≡◌, ◌+◌, ◌-◌, ◌*◌, ◌/◌, ◌%◌, ◌<◌, ◌≤◌, slice_index};
 
 // The kinds of blocks and of their records, as they are numbered.
 #[derive(Clone, Copy)]
@@ -47,7 +47,7 @@ pub fn low_byte(x: u16) -> u8
 }
 
 // A job's sizes.
-#[derive(Clone, Copy)]
+#[derive(Clone, Copy, Default)]
 pub struct Shape {
     pub k: u16,
     pub n: u16,
@@ -156,7 +156,7 @@ impl Shape {
 // The blocks that `count` records fill.
 fn span(count: u16) -> u16
     ensures blocks { result ≡ (count + 62) / 63 }
-    ensures small { result < 1042 }
+    ensures small { result ≤ 1041 }
 {
     count.div_ceil(63)
 }

@@ -25,7 +25,7 @@ pub fn unpack(job: &Job, stored: &[u8], rooms: [u16; 3]) -> Unpacking {
     let held = if answer.is_ok() {
         job.shape
     } else {
-        Shape::from([0; 4])
+        Shape::default()
     };
     Unpacking {
         reading: Reading(answer),
