@@ -1,5 +1,5 @@
 // Slices that are lent: their first bytes, and whether they were left alone.
-ghost use Rattle.std.specs.Prelude.{◌≡◌, take};
+ghost use Rattle.std.specs.Prelude.{◌≡◌, ◌↔◌, ◌+◌, ◌<◌, ℕ, length, take, IsTrue, slice_index};
 
 // What a lent output is filled with before a call.
 pub const MARK: u8 = 165;
@@ -19,6 +19,8 @@ pub fn front_mut(s: &mut [u8], n: usize) -> &mut [u8]
 }
 
 // Every byte from `from` on is as it was before the call.
-pub fn is_kept(s: &[u8], from: usize) -> bool {
+pub fn is_kept(s: &[u8], from: usize) -> bool
+    ensures { IsTrue result ↔ ((k : ℕ) → from + k < length s.now → slice_index s.now (from + k) ≡ MARK) }
+{
     s.iter().skip(from).all(|b| *b == MARK)
 }

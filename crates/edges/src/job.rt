@@ -22,7 +22,7 @@ impl From<[u16; 3]> for Edit {
     }
 }
 
-// The sizes that a job was built with and its bytes, in 128 blocks, for a length that does not fit sixteen bits.
+// The sizes that a job was built with, and its bytes: 128 blocks, for a length that does not fit sixteen bits.
 #[derive(Drop)]
 pub struct Job {
     pub shape: Shape,
@@ -82,7 +82,8 @@ impl Job {
     }
 
     fn put<const N: usize>(&mut self, at: usize, bytes: [u8; N])
-        ensures inside { at + N ≤ length self.old.bytes → self.new.bytes ≡ take at self.old.bytes ++ bytes.entry ++ drop (at + N) self.old.bytes }
+        ensures inside { at + N ≤ length self.old.bytes →
+            self.new.bytes ≡ take at self.old.bytes ++ bytes.entry ++ drop (at + N) self.old.bytes }
         ensures outside { length self.old.bytes < at + N → self.new.bytes ≡ self.old.bytes }
         ensures shape { self.new.shape ≡ self.old.shape }
     {

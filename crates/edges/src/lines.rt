@@ -51,29 +51,21 @@ impl Test {
     }
 }
 
-// The last seven numbers of a line, with zeros before them.
-#[derive(Clone, Copy)]
-pub struct Row {
-    // each by its low sixteen bits
-    pub numbers: [u16; 7],
-    // the last of them whole
-    pub last: usize,
-}
-
-impl From<&[u8]> for Row {
-    fn from(line: &[u8]) -> Row {
-        let mut row = [0; 7];
-        for (number, word) in row.iter_mut().rev().zip(line.rsplit(|b| *b == b' ')) {
-            *number = number_of(word);
-        }
-        Row {
-            numbers: row.map(|number| (number % 65536) as u16),
-            last: row[6],
-        }
+// The last numbers of a line by their low sixteen bits, with zeros before them where the line has fewer.
+pub fn numbers<const N: usize>(line: &[u8]) -> [u16; N] {
+    let mut numbers = [0; N];
+    for (number, word) in numbers.iter_mut().rev().zip(line.rsplit(|b| *b == b' ')) {
+        *number = (number_of(word) % 65536) as u16;
     }
+    numbers
 }
 
-// The number that the digits of a word make; one past 2^64 - 1 begins anew.
+// The last number of a line, which may not fit sixteen bits.
+pub fn last_number(line: &[u8]) -> usize {
+    line.rsplit(|b| *b == b' ').next().map_or(0, number_of)
+}
+
+// The number that the digits of a word make; one that ten times would pass 2^64 - 1 begins anew.
 fn number_of(word: &[u8]) -> usize {
     word.iter()
         .filter(|b| b.is_ascii_digit())

@@ -13,34 +13,32 @@ mod unpacking;
 
 ghost use Rattle.std.specs.Prelude.{◌≤◌, length};
 
-use crate::job::{Edit, Job};
-use crate::lines::{Row, Test};
-use crate::shape::{Record, Shape};
+use crate::job::Job;
+use crate::lines::{Test, last_number, numbers};
 use crate::show::Answer;
 use std::io;
 use std::io::{Read, Write};
 use std::rt::{Stdin, Stdout};
 
-fn answer(test: Test, row: Row, job: &mut Job) -> Answer {
-    let Row { numbers, last } = row;
-    let [a, b, c, d, e, f, g] = numbers;
+fn answer(test: Test, line: &[u8], job: &mut Job) -> Answer {
     match test {
-        Test::Length => reading::length(job, last),
-        Test::Sized => reading::sized(job, Shape::from([c, d, e, f]), g),
-        Test::AllZeroBlock => reading::all_zero(job, f, g),
-        Test::Flipped => reading::flipped(job, f, g),
-        Test::Exchanged => reading::exchanged(job, e, f, g),
-        Test::Edited(shape) => reading::edited(job, shape, Edit::from([e, f, g])),
-        Test::EditedTwice(shape) => {
-            reading::edited_twice(job, shape, [Edit::from([c, d, g]), Edit::from([e, f, g])])
+        Test::Length => reading::length(job, last_number(line)),
+        Test::Sized => reading::sized(job, numbers(line)),
+        Test::AllZeroBlock => reading::all_zero(job, numbers(line)),
+        Test::Flipped => reading::flipped(job, numbers(line)),
+        Test::Exchanged => reading::exchanged(job, numbers(line)),
+        Test::Edited(shape) => reading::edited(job, shape, numbers(line)),
+        Test::EditedTwice(shape) => reading::edited_twice(job, shape, numbers(line)),
+        Test::WrongFrom => reading::wrong_from(job, last_number(line)),
+        Test::Record(kind) => reading::record(job, kind, numbers(line)),
+        Test::PackVariables => packing::zeros(last_number(line), [8, 0, 0, 1024]),
+        Test::Pack => {
+            let [k, nodes, expressions, clauses, room] = numbers::<5>(line);
+            packing::zeros(usize::from(k), [nodes, expressions, clauses, room])
         }
-        Test::WrongFrom => reading::wrong_from(job, last),
-        Test::Record(kind) => reading::record(job, kind, b, Record::from([c, d, e, f, g])),
-        Test::PackVariables => packing::zeros(last, [8, 0, 0], 1024),
-        Test::Pack => packing::zeros(usize::from(c), [d, e, f], g),
-        Test::Repack => packing::repacked(job, Shape::from([c, d, e, f]), g),
+        Test::Repack => packing::repacked(job, numbers(line)),
         Test::Flag => packing::flag(job),
-        Test::Unpack => unpacking::unpacked(job, Shape::from([a, b, c, d]), [e, f, g]),
+        Test::Unpack => unpacking::unpacked(job, numbers(line)),
     }
 }
 
@@ -51,7 +49,7 @@ fn tell(to: &mut Stdout, line: &[u8], job: &mut Job) -> io::Result<()> {
         return writeln!(to);
     }
     match Test::of(line) {
-        Some(test) => writeln!(to, ":{}", answer(test, Row::from(line), job)),
+        Some(test) => writeln!(to, ":{}", answer(test, line, job)),
         None => write!(to, ":"),
     }
 }

@@ -47,10 +47,10 @@ pub fn read_and_pack(job: &Job, room: u16) -> Answer {
 }
 
 // Packs three lists of zeros, of the sizes that are given.
-pub fn zeros(k: usize, sizes: [u16; 3], room: u16) -> Answer {
+pub fn zeros(k: usize, [nodes, expressions, clauses, room]: [u16; 4]) -> Answer {
     let zeros = [0; 8080];
+    let lists = [nodes, expressions, clauses].map(|size| front(&zeros, usize::from(size)));
     let mut out = [MARK; ROOM];
-    let lists = sizes.map(|size| front(&zeros, usize::from(size)));
     Answer::Packed(pack(k, lists, room, &mut out))
 }
 
@@ -68,8 +68,8 @@ fn round_trip(job: &Job, room: u16) -> RoundTrip {
     RoundTrip { packing, back }
 }
 
-pub fn repacked(job: &mut Job, shape: Shape, room: u16) -> Answer {
-    job.build(shape);
+pub fn repacked(job: &mut Job, [k, n, e, c, room]: [u16; 5]) -> Answer {
+    job.build(Shape::from([k, n, e, c]));
     Answer::RoundTrip(round_trip(job, room))
 }
 

@@ -16,52 +16,52 @@ pub fn length(job: &mut Job, size: usize) -> Answer {
 }
 
 // The job is sealed again, for more blocks may be given than it has.
-pub fn sized(job: &mut Job, shape: Shape, given: u16) -> Answer {
-    job.build(shape);
+pub fn sized(job: &mut Job, [k, n, e, c, given]: [u16; 5]) -> Answer {
+    job.build(Shape::from([k, n, e, c]));
     job.seal(given);
     Answer::Read(reading(job.first_blocks(given)))
 }
 
-pub fn all_zero(job: &mut Job, from: u16, given: u16) -> Answer {
+pub fn all_zero(job: &mut Job, [from, given]: [u16; 2]) -> Answer {
     job.build(Shape::FULL);
     job.clear_from(from);
     Answer::Read(reading(job.first_blocks(given)))
 }
 
 // A bit is flipped, and no check is mended.
-pub fn flipped(job: &mut Job, block: u16, offset: u16) -> Answer {
+pub fn flipped(job: &mut Job, [block, offset]: [u16; 2]) -> Answer {
     job.build(Shape::FULL);
     job.flip(block, offset);
     Answer::Read(reading(job.stored()))
 }
 
 // Two words of a block are exchanged, which its check cannot show.
-pub fn exchanged(job: &mut Job, block: u16, a: u16, b: u16) -> Answer {
+pub fn exchanged(job: &mut Job, [block, a, b]: [u16; 3]) -> Answer {
     job.build(Shape::FULL);
     job.exchange_words(block, a, b);
     Answer::Read(reading(job.stored()))
 }
 
 // A byte is put in a block, whose check is then mended.
-pub fn edited(job: &mut Job, shape: Shape, edit: Edit) -> Answer {
+pub fn edited(job: &mut Job, shape: Shape, edit: [u16; 3]) -> Answer {
     job.build(shape);
-    job.edit_mended(edit);
+    job.edit_mended(Edit::from(edit));
     Answer::Read(reading(job.stored()))
 }
 
-// Two places are wrong, so that a refusal has two to name.
-pub fn edited_twice(job: &mut Job, shape: Shape, edits: [Edit; 2]) -> Answer {
+// One byte is put at two places, so that a refusal has two places to name.
+pub fn edited_twice(job: &mut Job, shape: Shape, edits: [u16; 5]) -> Answer {
+    let [block, offset, other_block, other_offset, byte] = edits;
     job.build(shape);
-    for edit in edits {
-        job.edit_mended(edit);
-    }
+    job.edit_mended(Edit::from([block, offset, byte]));
+    job.edit_mended(Edit::from([other_block, other_offset, byte]));
     read_and_pack(job, 16896)
 }
 
 // A record of the largest job that keeps or breaks its rule.
-pub fn record(job: &mut Job, kind: Kind, i: u16, record: Record) -> Answer {
+pub fn record(job: &mut Job, kind: Kind, [i, code, flag, p, q, r]: [u16; 6]) -> Answer {
     job.build(Shape::FULL);
-    job.put_record(kind, i, record);
+    job.put_record(kind, i, Record::from([code, flag, p, q, r]));
     job.seal(job.shape.blocks());
     read_and_pack(job, 16896)
 }

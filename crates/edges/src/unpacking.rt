@@ -22,19 +22,17 @@ pub fn unpack(job: &Job, stored: &[u8], rooms: [u16; 3]) -> Unpacking {
         (Kind::Clause, &clauses),
     ];
     // what is refused leaves all of the lists alone
-    let held = if answer.is_ok() {
-        job.shape
-    } else {
-        Shape::default()
-    };
+    let held = answer.map_or(Shape::default(), |_| job.shape);
+    let same = lists.iter().all(|(kind, list)| job.is_in(*kind, list));
+    let kept = lists.iter().all(|(kind, list)| is_kept(list, records_size(held.count(*kind))));
     Unpacking {
         reading: Reading(answer),
-        same: answer.is_ok().then(|| Same(lists.iter().all(|(kind, list)| job.is_in(*kind, list)))),
-        kept: Kept(lists.iter().all(|(kind, list)| is_kept(list, records_size(held.count(*kind))))),
+        same: answer.is_ok().then_some(Same(same)),
+        kept: Kept(kept),
     }
 }
 
-pub fn unpacked(job: &mut Job, shape: Shape, rooms: [u16; 3]) -> Answer {
-    job.build(shape);
-    Answer::Unpacked(unpack(job, job.stored(), rooms))
+pub fn unpacked(job: &mut Job, [k, n, e, c, nodes, expressions, clauses]: [u16; 7]) -> Answer {
+    job.build(Shape::from([k, n, e, c]));
+    Answer::Unpacked(unpack(job, job.stored(), [nodes, expressions, clauses]))
 }
