@@ -1,5 +1,5 @@
 // A job built by document 01's layout alone. What lies outside its bytes reads as 0 and is not stored.
-ghost use Rattle.std.specs.Prelude.{◌≡◌, ◌+◌, ◌<◌, ◌≤◌, ◌++◌, length, take, drop, replicate};
+ghost use Rattle.std.specs.Prelude.{◌≡◌, ◌+◌, ◌<◌, ◌≤◌, ◌++◌, ◌%◌, length, take, drop, replicate, slice_index};
 
 use crate::bytes::front;
 use crate::shape::{Kind, Record, Shape, low_byte, place, spot, word_place};
@@ -13,6 +13,9 @@ pub struct Edit {
 }
 
 impl From<[u16; 3]> for Edit {
+    ghost from_gives = { λ numbers edit. (edit.block ≡ slice_index numbers 0) × (edit.offset ≡ slice_index numbers 1) ×
+        (edit.byte ≡ slice_index numbers 2 % 256) };
+
     fn from([block, offset, byte]: [u16; 3]) -> Edit {
         Edit {
             block,
@@ -93,7 +96,7 @@ impl Job {
         }
     }
 
-    fn get<const N: usize>(&self, at: usize) -> [u8; N]
+    fn bytes_at<const N: usize>(&self, at: usize) -> [u8; N]
         ensures inside { at + N ≤ length self.now.bytes → result ≡ take N (drop at self.now.bytes) }
         ensures outside { length self.now.bytes < at + N → result ≡ replicate N 0 }
     {
@@ -123,8 +126,8 @@ impl Job {
 
     pub fn exchange_words(&mut self, block: u16, a: u16, b: u16) {
         let (a, b) = (word_place(block, a), word_place(block, b));
-        let was: [u8; 4] = self.get(a);
-        let other: [u8; 4] = self.get(b);
+        let was: [u8; 4] = self.bytes_at(a);
+        let other: [u8; 4] = self.bytes_at(b);
         self.put(a, other);
         self.put(b, was);
     }
@@ -141,7 +144,7 @@ impl Job {
     }
 
     pub fn record(&self, kind: Kind, i: u16) -> [u8; 8] {
-        self.get(spot(self.shape.first_block(kind), i))
+        self.bytes_at(spot(self.shape.first_block(kind), i))
     }
 
     // The records of a kind, in a list by themselves.

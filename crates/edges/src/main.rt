@@ -42,7 +42,7 @@ fn answer(test: Test, line: &[u8], job: &mut Job) -> Answer {
     }
 }
 
-// A line is printed with its answer; one with # alone, and one that asks nothing with no end.
+// Prints a line and its answer; a line with # as it stands, and one that asks nothing with no end.
 fn tell(to: &mut Stdout, line: &[u8], job: &mut Job) -> io::Result<()> {
     to.write_all(line)?;
     if line.starts_with(b"#") {

@@ -1,5 +1,5 @@
 // Where document 01 puts a job's blocks and records, and records that keep its rules. Nothing here is of the library under test.
-ghost use Rattle.std.specs.Prelude.{◌≡◌, ◌+◌, ◌-◌, ◌*◌, ◌/◌, ◌%◌, ◌<◌, ◌≤◌, slice_index};
+ghost use Rattle.std.specs.Prelude.{◌≡◌, ◌+◌, ◌-◌, ◌*◌, ◌/◌, ◌%◌, ◌<◌, ◌≤◌, ℕ, drop, slice_index};
 
 // The kinds of blocks and of their records, as they are numbered.
 #[derive(Clone, Copy)]
@@ -23,14 +23,21 @@ pub struct Record {
 }
 
 impl Record {
-    pub fn to_bytes(self) -> [u8; 8] {
+    pub fn to_bytes(self) -> [u8; 8]
+        ensures code { slice_index result 0 ≡ self.code }
+        ensures flag { slice_index result 1 ≡ self.flag }
+        ensures operands { (i : ℕ) → i < 3 → slice_index result (2 + 2 * i) + 256 * slice_index result (3 + 2 * i) ≡ slice_index self.operands i }
+    {
         let [p, q, r] = self.operands.map(u16::to_le_bytes);
         [self.code, self.flag, p[0], p[1], q[0], q[1], r[0], r[1]]
     }
 }
 
-// The low bytes of the first two numbers.
+// The first two numbers give their low bytes.
 impl From<[u16; 5]> for Record {
+    ghost from_gives = { λ numbers r. (r.code ≡ slice_index numbers 0 % 256) × (r.flag ≡ slice_index numbers 1 % 256) ×
+        (r.operands ≡ drop 2 numbers) };
+
     fn from([code, flag, p, q, r]: [u16; 5]) -> Record {
         Record {
             code: low_byte(code),
@@ -56,7 +63,8 @@ pub struct Shape {
 }
 
 impl From<[u16; 4]> for Shape {
-    ghost from_gives = { λ sizes z. (z.k ≡ slice_index sizes 0) × (z.n ≡ slice_index sizes 1) × (z.e ≡ slice_index sizes 2) × (z.c ≡ slice_index sizes 3) };
+    ghost from_gives = { λ sizes z. (z.k ≡ slice_index sizes 0) × (z.n ≡ slice_index sizes 1) ×
+        (z.e ≡ slice_index sizes 2) × (z.c ≡ slice_index sizes 3) };
 
     fn from([k, n, e, c]: [u16; 4]) -> Shape {
         Shape { k, n, e, c }
