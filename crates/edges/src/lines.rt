@@ -65,13 +65,12 @@ pub fn last_number(line: &[u8]) -> usize {
     line.rsplit(|b| *b == b' ').next().map_or(0, number_of)
 }
 
-// The number that the digits of a word make; one that ten times would pass 2^64 - 1 begins anew.
+// The number that the digits of a word make; one too large begins anew.
 fn number_of(word: &[u8]) -> usize {
     word.iter()
         .filter(|b| b.is_ascii_digit())
         .fold(0, |number: usize, digit| {
-            number
-                .checked_mul(10)
-                .map_or(0, |tens| { tens.wrapping_add(usize::from(*digit % 16)) })
+            let tens = number.checked_mul(10);
+            tens.map_or(0, |tens| tens.wrapping_add(usize::from(*digit % 16)))
         })
 }
