@@ -3,7 +3,7 @@ use crate::bytes::{MARK, front, front_mut, is_kept};
 use crate::job::Job;
 use crate::reading::reading;
 use crate::shape::{Kind, Shape, records_size};
-use crate::show::{Answer, Kept, Packing, RoundTrip, Same, packed};
+use crate::show::{Answer, Kept, Packing, RoundTrip, Same};
 use crate::unpacking::unpack;
 
 // Room in an output for the largest job and two blocks more.
@@ -12,13 +12,13 @@ const ROOM: usize = 17920;
 // Packs three lists into the first `room` bytes of an output, and says whether the rest of it was left alone.
 fn pack(k: usize, lists: [&[u8]; 3], room: u16, out: &mut [u8]) -> Packing {
     let [nodes, expressions, clauses] = lists;
-    let answer = packed(jobs::pack(
+    let answer = jobs::pack(
         k,
         nodes,
         expressions,
         clauses,
         front_mut(out, usize::from(room)),
-    ));
+    );
     Packing {
         answer,
         kept: Kept(is_kept(out, answer.unwrap_or(0))),

@@ -2,11 +2,11 @@
 use crate::job::{Edit, Job};
 use crate::packing::read_and_pack;
 use crate::shape::{Kind, Record, Shape};
-use crate::show::{Answer, Reading, read};
+use crate::show::{Answer, Reading};
 
 // What reading bytes answers.
 pub fn reading(bytes: &[u8]) -> Reading {
-    Reading(read(jobs::sizes(bytes)))
+    Reading(jobs::sizes(bytes))
 }
 
 // The largest job, with zeros after it.

@@ -1,21 +1,6 @@
 // What the tests answer, and how a line of output tells it.
 use std::fmt;
-use stored::{Packed, Read, Refusal, Size};
-
-// These two go when `jobs` answers with a Result.
-pub fn read(answer: Read) -> Result<Size, Refusal> {
-    match answer {
-        Read::Accepted(size) => Ok(size),
-        Read::Refused(refusal) => Err(refusal),
-    }
-}
-
-pub fn packed(answer: Packed) -> Result<usize, Refusal> {
-    match answer {
-        Packed::Written(size) => Ok(size),
-        Packed::Refused(refusal) => Err(refusal),
-    }
-}
+use stored::{Refusal, Size};
 
 #[derive(Clone, Copy)]
 struct Refused(Refusal);

@@ -2,7 +2,7 @@
 use crate::bytes::{MARK, front_mut, is_kept};
 use crate::job::Job;
 use crate::shape::{Kind, Shape, records_size};
-use crate::show::{Answer, Kept, Reading, Same, Unpacking, read};
+use crate::show::{Answer, Kept, Reading, Same, Unpacking};
 
 // Unpacks the stored bytes of a job into lists with the rooms that are given.
 pub fn unpack(job: &Job, stored: &[u8], rooms: [u16; 3]) -> Unpacking {
@@ -10,12 +10,12 @@ pub fn unpack(job: &Job, stored: &[u8], rooms: [u16; 3]) -> Unpacking {
     let mut nodes = [MARK; 8080];
     let mut expressions = [MARK; 4048];
     let mut clauses = [MARK; 4048];
-    let answer = read(jobs::unpack(
+    let answer = jobs::unpack(
         stored,
         front_mut(&mut nodes, n),
         front_mut(&mut expressions, e),
         front_mut(&mut clauses, c),
-    ));
+    );
     let lists: [(Kind, &[u8]); 3] = [
         (Kind::Node, &nodes),
         (Kind::Expression, &expressions),
