@@ -1,29 +1,27 @@
--- Gaps skipped one by one.
+-- Gaps counted from a place on.
 -- Assumes nothing.
-use borrow.Author.Tests.{not-true, not-false}
-use mathlib.Core.Path.{◌≡◌, sym, ◌∙◌}
-use mathlib.Core.Bool.{Bool, true, false, not}
+use mathlib.Core.Path.{◌≡◌, ◌∙◌}
 use mathlib.Core.List.{List}
-use native.Mathlib.Decide.{dec_lt}
 use native.Mathlib.Omega.{arith}
-use Prim.Native.Nat.{ℕ, ◌+◌, ◌≤◌, ◌<◌}
-use lib.ListN.{length}
-use Rattle.stored.specs.Bytes.{byte_at}
+use Prim.Native.Nat.{ℕ, ◌+◌, ◌-◌, ◌≤◌, ◌<◌}
+use lib.ListN.{length, drop}
+use Rattle.std.specs.List.{take_while, prefix_len}
+use Rattle.std.proofs.lemmas.List.{get_or-drop, length-drop}
+use Rattle.std.proofs.lemmas.List.Folds.{length-prefix_len}
+use Rattle.std.proofs.lemmas.List.Sums.{prefix_len-le-length, prefix_len_passes, prefix_len_stops}
 use Rattle.grammar.specs.Spelling.{is_gap}
-use Rattle.phrases.specs.Places.{Gaps, Skips}
+use Rattle.phrases.specs.Places.{Skips}
 
-pub gaps_none : (text : List ℕ) (at : ℕ) → at ≤ length text → Gaps text at at
-gaps_none text at h = record { forward = omega arith; inside = h; gaps = λ i l m. absurd (omega arith) }
-
-pub gaps_more : {text : List ℕ} {at q : ℕ} {t : Bool} → Gaps text at q → t ≡ is_gap (byte_at text q) → not t ≡ false → q < length text → Gaps text at (q + 1)
-gaps_more {text} {at} {q} {t} p e f h = record { forward = omega (arith, p.forward); inside = omega arith; gaps = λ i l m. go i l m (dec_lt i q) }
-  where
-    go : (i : ℕ) → at ≤ i → i < q + 1 → Dec (i < q) → is_gap (byte_at text i) ≡ true
-    go i l m (yes x) = p.gaps i l x
-    go i l m (no x) = let same : i ≡ q = omega arith in rw same (sym e ∙ not-false t f)
-
-pub gaps_end : {text : List ℕ} {at q : ℕ} {t : Bool} → Gaps text at q → t ≡ is_gap (byte_at text q) → not t ≡ true → Skips text at q
-gaps_end {t = t} p e f = record { over = p; ends = λ _. sym e ∙ not-true t f }
-
-pub gaps_over : {text : List ℕ} {at q : ℕ} → Gaps text at q → length text ≤ q → Skips text at q
-gaps_over p h = record { over = p; ends = λ l. absurd (omega arith) }
+-- `rest` is the text from `at` on
+pub skips_counted : (text rest : List ℕ) (at : ℕ) {n : ℕ} → at ≤ length text → rest ≡ drop at text → n ≡ length (take_while is_gap rest) → Skips text at (at + n)
+skips_counted text rest at {n} h from e =
+    let here : n ≡ prefix_len is_gap (drop at text) = rw from at (e ∙ length-prefix_len is_gap rest) in
+    let few : n ≤ length text - at = rw (here, ← length-drop at text) (prefix_len-le-length is_gap (drop at text)) in
+    record {
+      over = record {
+        forward = omega arith;
+        inside = omega arith;
+        gaps = λ i l m. let same : at + (i - at) ≡ i = omega arith in rw same at (rw get_or-drop at (prefix_len_passes is_gap (drop at text) (i - at) 0 (omega arith)));
+      };
+      ends = λ m. rw (here, ← get_or-drop at text _ 0) (prefix_len_stops is_gap (drop at text) 0 (simp length-drop (omega arith)));
+    }

@@ -1,9 +1,8 @@
 -- What the reader's functions say of places in the text: where gaps end, where a word or number ends, and how reading goes on from there.
 -- Assumes nothing.
-use Rattle.std.specs.Prelude.{◌≡◌, Bool, true, false, ◌&&◌, List, ℕ, ◌+◌, ◌-◌, ◌≤◌, ◌<◌, leb, ltb, eqb, length}
+use Rattle.std.specs.Prelude.{◌≡◌, Bool, true, false, ◌&&◌, List, ℕ, ◌+◌, ◌-◌, ◌≤◌, ◌<◌, leb, ltb, eqb, length, Result, MatchResult}
 use Rattle.stored.specs.Bytes.{byte_at}
-use Rattle.phrases.specs.declared.items.Step.{Step}
-use Rattle.phrases.specs.declared.items.Step.TheVariants.{To, Stuck}
+use Rattle.phrases.specs.declared.items.Stopped.{Stopped}
 use Rattle.grammar.specs.Spelling.{is_gap}
 use Rattle.grammar.specs.Bytewise.{is_digit}
 
@@ -56,10 +55,6 @@ pub record Spelt (text : List ℕ) (at : ℕ) (w : List ℕ) (q : ℕ) : Type 0 
   pub inside : q ≤ length text
   pub all : Letters text at w (length w)
 
--- the word stands from `at` to q; or it breaks at j
-abbrev pub SpeltCases : List ℕ → ℕ → List ℕ → Step → Type 0
-SpeltCases text at w (To q) = Spelt text at w q
-SpeltCases text at w (Stuck j) = Broken text at w j
-
-pub record SpeltAt (text : List ℕ) (at : ℕ) (w : List ℕ) (r : Step) : Type 0 where
-  pub says : SpeltCases text at w r
+-- the word stands from `at` to the place answered; or it breaks at the one where the text stops
+pub record SpeltAt (text : List ℕ) (at : ℕ) (w : List ℕ) (r : Result ℕ Stopped) : Type 0 where
+  pub says : MatchResult r (Spelt text at w) (λ s. Broken text at w s.at)
