@@ -1,18 +1,13 @@
 -- How a guard is made up of what its levels read: operands, `!`, and groups in brackets.
 -- Assumes nothing.
 use mathlib.Core.Path.{◌≡◌, refl, sym, ◌∙◌, ap, subst}
-use borrow.Author.Tests.{not-false}
-use mathlib.Core.Bool.{Bool, false, not}
 use mathlib.Core.List.{List, ◌∷◌}
 use native.Mathlib.Omega.{arith}
 use Prim.Native.Nat.{ℕ, suc, ◌+◌, ◌-◌, ◌*◌, ◌≤◌, ◌<◌}
 use lib.ListN.{length}
-use Rattle.stored.specs.Bytes.{byte_at}
 use Rattle.texts.specs.Putting.{Puts}
 use Rattle.texts.proofs.PutLaws.{puts_then, ended_at}
-use Rattle.phrases.specs.declared.guards.Operand.{Operand}
-use Rattle.phrases.specs.declared.guards.Operand.TheVariants.{Constant, Variable}
-use Rattle.phrases.specs.Operands.{OperandHere, NoOperand}
+use Rattle.phrases.specs.Operands.{NoOperand}
 use Rattle.grammar.specs.Guards.{Guard, letter, constant, complement, bracketed, size}
 use Rattle.grammar.specs.Records.{expression_record, guard_place, guard_records}
 use Rattle.grammar.specs.Points.{Frame, negating, grouping, groups, guarded, Point}

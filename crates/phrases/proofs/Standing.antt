@@ -1,15 +1,11 @@
 -- A byte or a digit stands at a place, or does not.
 -- Assumes nothing.
-use borrow.Author.Tests.{not-true, not-false, lt-ltb, le-leb, lt-leb}
-use mathlib.Core.Path.{◌≡◌, refl, sym, ◌∙◌, subst}
-use mathlib.Core.Bool.{Bool, true, false, not}
+use mathlib.Core.Path.{◌≡◌, sym, ◌∙◌}
+use mathlib.Core.Bool.{Bool, true, false}
 use mathlib.Core.List.{List}
-use native.Mathlib.Omega.{arith}
-use Prim.Native.Nat.{ℕ, ◌+◌, ◌-◌, ◌≤◌, ◌<◌}
-use lib.Dec.{ltb}
+use Prim.Native.Nat.{ℕ, ◌≤◌, ◌<◌}
 use lib.ListN.{length}
 use Rattle.scans.proofs.Bools.{both_ways, says}
-use Rattle.scans.proofs.Search.{below_suc}
 use Rattle.stored.specs.Bytes.{byte_at}
 use Rattle.phrases.specs.Places.{is_at, is_digit_at, Stands}
 

@@ -1,6 +1,6 @@
 -- The variable or constant that stands at a place, or that none does.
 -- Assumes nothing.
-use Rattle.std.specs.Prelude.{◌≡◌, false, List, ℕ, ◌+◌, ◌-◌, ◌≤◌, ◌<◌, length}
+use Rattle.std.specs.Prelude.{◌≡◌, false, List, ℕ, ◌+◌, ◌<◌}
 use Rattle.phrases.specs.declared.guards.Operand.{Operand}
 use Rattle.phrases.specs.declared.guards.Operand.TheVariants.{Constant, Variable}
 use Rattle.phrases.specs.Places.{is_letter, Stands}

@@ -5,9 +5,9 @@ use native.Mathlib.Omega.{arith}
 use Rattle.grammar.proofs.Frames.{size_some}
 use Rattle.phrases.specs.Operators.{operator_of}
 use Rattle.phrases.proofs.Exits.{left_with}
-use Rattle.phrases.proofs.Standing.{stands, stands_not, stands_so, stands_not_so}
+use Rattle.phrases.proofs.Standing.{stands, stands_not, stands_so}
 use Rattle.phrases.proofs.LevelLaws.{negated_to, negated_none, negated_full, grouped_to, grouped_none, grouped_open, grouped_deep}
-use Rattle.phrases.proofs.ChainLaws.{chain_first, chain_nothing, chain_end, chain_full, chain_none, chain_more}
+use Rattle.phrases.proofs.ChainLaws.{chain_full, chain_none, chain_more}
 use Rattle.phrases.proofs.guards.+levels.Goals as goal
 
 pub joined-returns-then-left-pending-gt-EXPRESSIONS : goal.joined-returns-then-left-pending-gt-EXPRESSIONS
@@ -18,6 +18,12 @@ pub joined-returns-in_err-right : goal.joined-returns-in_err-right
 joined-returns-in_err-right t c =
     rw (left_with c.from_residual-in_err-right.result c.from_residual-in_err-right.ensures.1)
     (record { says = chain_none (operator_of c.args.operator) c.loop-operator.invariant (stands_so c.sign.ensures c.is_at.ensures c.loop-operator-test.true) c.if-left-pending-gt-EXPRESSIONS.false c.skip-from.ensures c.in_err-right.ensures.says })
+
+pub joined-overflow_sub-left : goal.joined-overflow_sub-left
+joined-overflow_sub-left t c = omega (arith, c.loop-operator.invariant.count, size_some c.loop-operator.invariant.guard)
+
+pub joined-overflow_sub-right : goal.joined-overflow_sub-right
+joined-overflow_sub-right t c = omega (arith, c.in_ok-right.ensures.says.count, size_some c.in_ok-right.ensures.says.guard)
 
 pub joined-loop-operator-preserved : goal.joined-loop-operator-preserved
 joined-loop-operator-preserved t c =

@@ -1,6 +1,6 @@
 -- The levels of a guard: the measure is the rest of the text, then the level. What is joined so far has been read from its start.
 -- Assumes nothing.
-use Rattle.std.proofs.Common.{ℕ, suc, ◌+◌, ◌-◌, ◌*◌, length}
+use Rattle.std.proofs.Common.{suc, ◌+◌, ◌-◌, ◌*◌, length}
 use Rattle.grammar.specs.Guards.{strength}
 use Rattle.phrases.specs.Operators.{operator_of}
 use Rattle.phrases.specs.GuardsRead.{GuardTo}
