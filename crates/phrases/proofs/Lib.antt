@@ -1,4 +1,4 @@
-pub mod Gapped
+pub mod Runs
 pub mod Exits
 pub mod Standing
 pub mod Feeding

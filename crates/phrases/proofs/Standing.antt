@@ -1,4 +1,4 @@
--- A byte or a digit stands at a place, or does not.
+-- A byte stands at a place, or does not.
 -- Assumes nothing.
 use mathlib.Core.Path.{◌≡◌, sym, ◌∙◌}
 use mathlib.Core.Bool.{Bool, true, false}
@@ -7,7 +7,7 @@ use Prim.Native.Nat.{ℕ, ◌≤◌, ◌<◌}
 use lib.ListN.{length}
 use Rattle.scans.proofs.Bools.{both_ways, says}
 use Rattle.stored.specs.Bytes.{byte_at}
-use Rattle.phrases.specs.Places.{is_at, is_digit_at, Stands}
+use Rattle.phrases.specs.Places.{is_at, Stands}
 
 pub stands : {text : List ℕ} {i b : ℕ} {t : Bool} → t ≡ is_at text i b → t ≡ true → Stands text i b
 stands {text = text} {i = i} {b = b} e h = let x = simp says at (sym e ∙ h) in record { inside = x.0; is = x.1 }
@@ -22,11 +22,3 @@ module _ {text : List ℕ} {i b m : ℕ} {t : Bool} (same : b ≡ m) (e : t ≡ 
 
   pub stands_not_so : t ≡ false → ¬ Stands text i m
   stands_not_so h = rw same at (stands_not {text = text} {i = i} {b = b} e h)
-
-pub record Digit (text : List ℕ) (i : ℕ) : Type 0 where
-  pub inside : i < length text
-  pub low : 48 ≤ byte_at text i
-  pub high : byte_at text i < 58
-
-pub digit_is : (text : List ℕ) (i : ℕ) {t : Bool} → t ≡ is_digit_at text i → t ≡ true → Digit text i
-digit_is text i e h = let x = simp says at (sym e ∙ h) in record { inside = x.0; low = x.1.0; high = x.1.1 }

@@ -4,7 +4,13 @@ use Rattle.std.specs.Prelude.{◌≡◌, Bool, true, false, ◌&&◌, List, ℕ,
 use Rattle.stored.specs.Bytes.{byte_at}
 use Rattle.phrases.specs.declared.items.Stopped.{Stopped}
 use Rattle.grammar.specs.Spelling.{is_gap}
-use Rattle.grammar.specs.Bytewise.{is_digit}
+
+-- the bytes from `at` to q pass the test, and the one at q does not
+pub record Passes (p : ℕ → Bool) (text : List ℕ) (at q : ℕ) : Type 0 where
+  pub forward : at ≤ q
+  pub inside : q ≤ length text
+  pub each : (i : ℕ) → at ≤ i → i < q → p (byte_at text i) ≡ true
+  pub ends : q < length text → p (byte_at text q) ≡ false
 
 -- gaps from `at` to q
 pub record Gaps (text : List ℕ) (at q : ℕ) : Type 0 where
@@ -24,10 +30,6 @@ pub record Skips (text : List ℕ) (at q : ℕ) : Type 0 where
 -- this byte stands there
 abbrev pub is_at : List ℕ → ℕ → ℕ → Bool
 is_at text at b = ltb at (length text) && eqb (byte_at text at) b
-
--- a digit stands there
-abbrev pub is_digit_at : List ℕ → ℕ → Bool
-is_digit_at text at = ltb at (length text) && is_digit (byte_at text at)
 
 -- a variable below k stands there
 abbrev pub is_letter : ℕ → List ℕ → ℕ → Bool

@@ -116,7 +116,16 @@ fn joined(
             return Err(Stopped { at: left.at });
         }
         let from = skip(text, left.at + 1);
-        let right = side(text, from, k, depth, left.expressions, pending + 1, es, operator)?;
+        let right = side(
+            text,
+            from,
+            k,
+            depth,
+            left.expressions,
+            pending + 1,
+            es,
+            operator,
+        )?;
         put_expression(
             es,
             right.expressions,

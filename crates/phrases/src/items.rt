@@ -1,7 +1,8 @@
 // Gaps, words and numbers, each from a place on.
 ghost use Rattle.std.specs.Prelude.{◌≡◌, ◌≤◌, length, take_while};
 ghost use Rattle.grammar.specs.Spelling.{is_gap};
-ghost use Rattle.phrases.specs.Places.{Skips, is_at, is_digit_at, SpeltAt};
+ghost use Rattle.grammar.specs.Bytewise.{is_digit};
+ghost use Rattle.phrases.specs.Places.{Passes, Skips, is_at, SpeltAt};
 
 // The place where the text stops.
 #[derive(Clone, Copy, Debug, PartialEq, Eq)]
@@ -50,8 +51,17 @@ pub fn spell(text: &[u8], at: usize, word: &[u8]) -> Result<usize, Stopped>
     Ok(at + word.len())
 }
 
-pub fn is_digit(text: &[u8], at: usize) -> bool
-    ensures { result ≡ is_digit_at text.now at }
+// How many digits the text begins with.
+fn digits(text: &[u8]) -> usize
+    ensures { result ≡ length (take_while is_digit text.now) }
 {
-    matches!(text.get(at), Some(b'0'..=b'9'))
+    text.iter().take_while(|b| b.is_ascii_digit()).count()
+}
+
+// The first place from `at` on that is no digit.
+pub fn after_digits(text: &[u8], at: usize) -> usize
+    requires { at ≤ length text.now }
+    ensures { Passes is_digit text.now at result }
+{
+    at + digits(&text[at..])
 }
