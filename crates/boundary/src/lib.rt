@@ -2,9 +2,5 @@
 #![tactic(auto)]
 
 mod answers;
-pub mod asking;
-pub mod packing;
-pub mod rows;
 mod telling;
-pub mod unpacking;
 pub mod wordings;
