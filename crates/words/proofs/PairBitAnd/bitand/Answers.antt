@@ -1,8 +1,8 @@
--- `xor_pair` at a place.
+-- `bitand` at a place.
 -- Assumes nothing.
 use Rattle.words.specs.Places.{bits_at}
 use Rattle.words.proofs.Bits.{bit_and_lem, bit_or_lem}
-use Rattle.words.proofs.xor_pair.Goals as goal
+use Rattle.words.proofs.PairBitAnd.bitand.Goals as goal
 
 pub returns : goal.returns
 unfolding bits_at

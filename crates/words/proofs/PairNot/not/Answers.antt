@@ -1,8 +1,8 @@
--- `not_pair` at a place.
+-- `not` at a place.
 -- Assumes nothing.
 use mathlib.Core.Path.{refl}
 use Rattle.words.specs.Places.{bits_at}
-use Rattle.words.proofs.not_pair.Goals as goal
+use Rattle.words.proofs.PairNot.not.Goals as goal
 
 pub returns : goal.returns
 unfolding bits_at
