@@ -19,6 +19,13 @@ checked_first st rest answer = go (first_bad st.ok st.count)
     go None = refl
     go (Some i) = refl
 
+-- past the last test the answer is left
+pub checked_none_left : (answer : Stated) → in_order refused [] answer ≡ answer
+unfolding in_order
+checked_none_left answer = refl
+
+pub ruleset checking = (checked_first, checked_none_left)
+
 module _ {r : Result Unit Refusal} (st : Stage) (rest : List Stage) (answer : Stated) (made : r ≡ checked st) where
   after : in_order refused (st ∷ rest) answer ≡ followed r (in_order refused rest answer)
   after = checked_first st rest answer ∙ ap (λ x. followed x (in_order refused rest answer)) (sym made)
