@@ -7,10 +7,13 @@ use Rattle.std.proofs.Math.ListN.{get_or-append}
 use native.Mathlib.Decide.{dec_lt}
 use Rattle.scans.specs.Lists.{list_of}
 use Rattle.scans.proofs.Lists.{list_of_is}
-use Rattle.meaning.specs.Stated.{Word, state}
+use Rattle.std.specs.Prelude.{true, leb}
+use borrow.Author.Tests.{le-leb}
+use Rattle.meaning.specs.Stated.{Word, Stated, state}
 use Rattle.stored.specs.Bytes.{digit}
 use Rattle.boundary.specs.Words.{word_number}
-use Rattle.boundary.specs.Answer.{ten_numbers, bytes_of}
+use Rattle.boundary.specs.Answer.{ten_numbers, answer_bytes}
+use Rattle.boundary.specs.Told.{if_room, Told}
 
 -- a byte of a number, low byte first
 pub low_byte : (n o : ℕ) → o < 4 → get_or (to_le_bytes w64 n) o 0 ≡ digit n o
@@ -43,4 +46,17 @@ padded w ns {n} e h =
     let f = λ (i : ℕ). get_or all i 0 in
     let s = all ++ zeros (9 - n) in
     let long : length s ≡ 10 = omega (arith, length-append ns (zeros (9 - n)), length-replicate {A = ℕ}) in
-    ap (λ l. all ++ l) (drop-replicate n 9 0) ∙ list_of_is f s (λ i l. padded_at all (9 - n) i) ∙ ap (list_of f) long
+    rw drop-replicate (list_of_is f s (λ i l. padded_at all (9 - n) i) ∙ ap (list_of f) long)
+
+-- an operation is tried where its answer has room, and what it answered is told
+module _ (answer : List ℕ) (room : 40 ≤ length answer) where
+  pub room_there : leb 40 (length answer) ≡ true
+  room_there = le-leb 40 (length answer) room
+
+  pub comes : {A : Type 0} {tried : A} (kept : A) {new : A} → new ≡ tried → new ≡ if_room answer tried kept
+  comes kept is = rw room_there is
+
+  pub told : {a b : Stated} {forty : List ℕ} {r : ℕ} → b ≡ a → r ≡ word_number b.word → forty ≡ answer_bytes b → Told a answer (forty ++ drop 40 answer) r
+  told e n p = record { result_is = comes 0 (n ∙ ap (λ s. word_number s.word) e); answer_is = comes answer (ap (λ l. l ++ drop 40 answer) (p ∙ ap answer_bytes e)) }
+
+pub ruleset telling = (told, comes)

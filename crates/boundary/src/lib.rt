@@ -1,6 +1,9 @@
 // The operations for C and Rust: numbers and byte slices only.
-#![tactic(auto)]
+#![tactic(auto, using(crate::proofs::TellingLaws::telling))]
 
 mod answers;
+pub mod asking;
+pub mod packing;
 mod telling;
+pub mod unpacking;
 pub mod wordings;
