@@ -1,4 +1,4 @@
-// The ten numbers of each answer: its word's number, its own numbers, then zeros.
+// Each answer in ten numbers: its word's number, its own numbers, then zeros.
 ghost use Rattle.std.specs.Prelude.{◌≡◌, ◌≤◌};
 ghost use Rattle.meaning.specs.Stated.{Stated, state, stated_case, stated_job};
 ghost use Rattle.stored.specs.Packing.{written};
@@ -41,7 +41,7 @@ impl Word {
     }
 }
 
-// What an operation answers, as it is told.
+// What an operation answers, in the ten numbers by which it is told.
 pub trait Answer {
     ghost stated: { Self → Stated };
 
@@ -88,9 +88,7 @@ impl Answer for JobAnswer {
 
     fn numbers(self) -> [usize; 10] {
         match self {
-            JobAnswer::Holds(c) => {
-                Word::Holds.with([c.cases, c.passing, c.failing, c.empty])
-            }
+            JobAnswer::Holds(c) => Word::Holds.with([c.cases, c.passing, c.failing, c.empty]),
             JobAnswer::Fails {
                 counts: c,
                 case,
