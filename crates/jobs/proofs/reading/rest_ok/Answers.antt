@@ -1,33 +1,19 @@
--- `rest_ok`: the bytes before the loop's place are used or 0.
+-- `rest_ok` asks each byte of the room.
 -- Assumes nothing.
-use Rattle.scans.proofs.Search.{scans}
-use Rattle.stored.specs.Reading.{rest_ok}
+use Rattle.std.specs.Prelude.{◌≡◌, ℕ, Bool, true, false, not, Option, None, Some, is_some, refl}
+use Rattle.std.proofs.Common.{rules}
+use Rattle.scans.specs.First.{is_clear, each}
+use Rattle.stored.specs.Reading.{rest_byte_ok, rest_ok}
 use Rattle.jobs.proofs.reading.rest_ok.Goals as goal
 
-pub loop-o-init : goal.loop-o-init
-unfolding rest_ok
-loop-o-init c = search scans
-
-pub rest_byte_ok-requires : goal.rest_byte_ok-requires
-unfolding rest_ok
-rest_byte_ok-requires c = search scans
-
-pub returns-then-not-rest_byte_ok : goal.returns-then-not-rest_byte_ok
-unfolding rest_ok
-returns-then-not-rest_byte_ok c = search scans
-
-pub overflow_add-o : goal.overflow_add-o
-unfolding rest_ok
-overflow_add-o c = search scans
-
-pub loop-o-smaller : goal.loop-o-smaller
-unfolding rest_ok
-loop-o-smaller c = search scans
-
-pub loop-o-preserved : goal.loop-o-preserved
-unfolding rest_ok
-loop-o-preserved c = search scans
+clear_if_none : (found : Option ℕ) (none : Bool) → is_some found ≡ not none → none ≡ is_clear found
+clear_if_none None true e = refl
+clear_if_none None false e = absurd cc
+clear_if_none (Some i) true e = absurd cc
+clear_if_none (Some i) false e = refl
 
 pub returns : goal.returns
-unfolding rest_ok
-returns c = search scans
+unfolding rest_ok each
+returns c =
+    let found = c.first_bad.ensures (rest_byte_ok c.args.s.now c.args.b) (λ i r h e. search rules) in
+    rw (← found) (clear_if_none _ _ c.is_none.ensures)
