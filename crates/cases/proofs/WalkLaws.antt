@@ -98,6 +98,7 @@ module _ (p : Plan) (x t m : ℕ) (a : Cell) where
     where
       k : Clause
       k = clause_of p.clauses i
+
       go : (b : Bool) → on k t ≡ b → cond b (joined_by (job_in p) x m (join_cells a (asked_by (job_in p) x t m i)) k) (join_cells a (asked_by (job_in p) x t m i))
           ≡ join_cells a (join_cells (asked_by (job_in p) x t m i) (value (cond (asks (job_in p) Stimulus x t m k) (bit k.value) v_x)))
       go true o = rw (counts_on (job_in p) x t m Stimulus k o) (taken (asks (job_in p) Stimulus x t m k))

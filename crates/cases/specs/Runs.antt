@@ -16,10 +16,6 @@ use Rattle.decoded.specs.Meant.{job_in}
 use Rattle.cases.specs.declared.values.Value.{Value}
 use Rattle.cases.specs.Cells.{Shows}
 
--- at the case's place the words have the truth of each guard in the case
-pub record Guards (p : Plan) (x : ℕ) (words : List ℕ) : Type 0 where
-  pub at : (m : ℕ) → m < p.size.e → bit_of (get_or words m 0) (x % 64) ≡ truth (job_in p).expressions x m
-
 -- the row is that of the time before `next`; at time 0 it may be any row
 pub record Before (p : Plan) (x next : ℕ) (row : List (Option Value)) : Type 0 where
   pub shows : (t : ℕ) → next ≡ suc t → Shows p.size.n row (cell (job_in p) x t)

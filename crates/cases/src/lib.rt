@@ -2,7 +2,6 @@
 #![tactic(auto)]
 
 mod rows;
-mod stub;
 mod values;
 
 ghost use Rattle.std.specs.Prelude.{◌≡◌, true, false, suc, ◌<◌, take, MatchOption};
@@ -21,7 +20,7 @@ pub fn case_row(plan: &Plan, case: usize, time: usize) -> Option<[u8; 1008]>
     ensures { let j = job_in plan.now in MatchOption result (each (row_clear j case) (suc time) ≡ false) (λ row. (each (row_clear j case) (suc time) ≡ true) × (take plan.now.size.n row ≡ row_numbers j case time plan.now.size.n)) }
 {
     let mut run = Run::new(plan, case);
-    for _t in 0..=time {
+    for _ in 0..=time {
         run.step();
         if run.collided().is_some() {
             return None;

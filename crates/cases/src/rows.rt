@@ -1,23 +1,24 @@
 // The rows of a case, one after the other.
-ghost use Rattle.std.specs.Prelude.{◌≡◌, ℕ, ◌+◌, ◌<◌, not, length, slice_index};
+ghost use Rattle.std.specs.Prelude.{◌≡◌, ℕ, ◌+◌, ◌%◌, ◌<◌, not, length, slice_index};
 ghost use Rattle.scans.specs.First.{first_bad};
 ghost use Rattle.meaning.specs.Values.{collides, join_cells, cell_number};
 ghost use Rattle.meaning.specs.Rows.{forces_from, forced, stimulus_at};
 ghost use Rattle.decoded.specs.Plans.{node_of, NodeWithin, ClauseWithin};
 ghost use Rattle.decoded.specs.Meant.{job_in};
+ghost use Rattle.guards.specs.Guarded.{Guarded};
 ghost use Rattle.cases.specs.Cells.{cell_of, cell_in, Shows};
-ghost use Rattle.cases.specs.Runs.{Guards, Before, counts, misses, judged};
+ghost use Rattle.cases.specs.Runs.{Before, counts, misses, judged};
 
-use crate::stub::guard_words;
 use crate::values::{Cell, Value, has, joined, number};
 use decoded::Plan;
+use guards::guard_words;
 use meaning::{CaseAnswer, Clause, Gate, Node, Side};
 
 pub type Row = [Cell; 1008];
 
-#[tactic(auto, unfolding(meaning::specs::Rows::forces_from, meaning::specs::Gates::gate_forces))]
 // What a node's gate forces from a row. A gate that would read a collision has nothing to read.
-fn forced(node: Node, row: &[Cell]) -> Cell
+#[tactic(auto, unfolding(meaning::specs::Rows::forces_from, meaning::specs::Gates::gate_forces))]
+fn forces_from(node: Node, row: &[Cell]) -> Cell
     requires { NodeWithin (length row.now) node }
     ensures { cell_of result ≡ forces_from node (cell_in row.now) }
 {
@@ -43,7 +44,7 @@ fn forced_row(plan: &Plan, row: &Row) -> Row
 {
     let mut next = [Some(Value::X); 1008];
     for (m, node) in plan.nodes[..plan.size.n].iter().enumerate() {
-        next[m] = forced(*node, row);
+        next[m] = forces_from(*node, row);
     }
     next
 }
@@ -58,7 +59,7 @@ pub struct Run<'a> {
     // The time of the next row.
     next: usize,
     row: Row,
-    ghost guarded: { Guards plan.now case guards },
+    ghost guarded: { Guarded (job_in plan.now) plan.now.size.e guards (case % 64) case },
     ghost before: { Before plan.now case next row },
 }
 

@@ -96,8 +96,8 @@ impl From<bool> for Value {
     }
 }
 
-#[tactic(auto, unfolding(meaning::specs::Values::join_cells, meaning::specs::Values::join))]
 // X takes the value, the same value stays, and anything else is a collision.
+#[tactic(auto, unfolding(meaning::specs::Values::join_cells, meaning::specs::Values::join))]
 pub fn joined(cell: Cell, one: bool) -> Cell
     ensures { cell_of result ≡ join_cells (cell_of cell) (value (bit one)) }
 {

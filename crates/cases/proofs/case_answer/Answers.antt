@@ -33,8 +33,9 @@ searched c =
     let t = c.loop-time.time in
     let before = c.loop-time.invariant.searched in
     elim c.match-answer.branch [
-      in-Passes w ↦ rw w.answer-is (searched_judged p c.args.case t (come c) before c.collided.ensures c.in_default.is w.in-Passes.is w.judged-answer.ensures)
-    | in_default-answer w ↦ rw w.answer-is (searched_stays p c.args.case t (come c) before c.collided.ensures c.in_default.is w.in_default-answer.not-Passes) ]
+      | in-Passes w ↦ rw w.answer-is (searched_judged p c.args.case t (come c) before c.collided.ensures c.in_default.is w.in-Passes.is w.judged-answer.ensures)
+      | in_default-answer w ↦ rw w.answer-is (searched_stays p c.args.case t (come c) before c.collided.ensures c.in_default.is w.in_default-answer.not-Passes)
+    ]
 
 pub loop-time-preserved : goal.loop-time-preserved
 loop-time-preserved c = let here = (goal.at.loop-time-preserved c).Joined-answer in record { come = come here; searched = searched here }

@@ -7,8 +7,8 @@ use Rattle.decoded.specs.Meant.{job_in}
 use Rattle.cases.proofs.AnswerLaws.{Come}
 use Rattle.cases.proofs.case_row.Given as goal
 
-abbrev pub invariant-loop-t : goal.invariant-loop-t
-invariant-loop-t l = record {
-  come : Come l.plan l.case l._t l.run;
-  clear : each (row_clear (job_in l.plan) l.case) l._t ≡ true
+abbrev pub invariant-loop : goal.invariant-loop
+invariant-loop l = record {
+  come : Come l.plan l.case l.counter l.run;
+  clear : each (row_clear (job_in l.plan) l.case) l.counter ≡ true;
 }

@@ -12,6 +12,6 @@ loop-m-preserved c =
     record {
       size = simp length-set c.loop-m.invariant.size;
       below = below_more _ _
-      (λ k h. let ne : k ≢ c.loop-m.m = omega arith in rw get_or-set_other (c.loop-m.invariant.below k h))
-      (rw (get_or-set_same c.loop-m.next c.loop-m.m c.forced.result _ lt) (rw get_or-take at c.forced.ensures));
+          (λ k h. let ne : k ≢ c.loop-m.m = omega arith in rw get_or-set_other (c.loop-m.invariant.below k h))
+          (rw (get_or-set_same c.loop-m.next c.loop-m.m c.forces_from.result _ lt) (rw get_or-take at c.forces_from.ensures));
     }

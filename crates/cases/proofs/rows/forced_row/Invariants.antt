@@ -9,5 +9,5 @@ use Rattle.cases.proofs.rows.forced_row.Given as goal
 abbrev pub invariant-loop-m : goal.invariant-loop-m
 invariant-loop-m l = record {
   size : length l.next ≡ 1008;
-  below : (k : ℕ) → k < l.m → cell_in l.next k ≡ forces_from (node_of l.plan.nodes k) (cell_in l.row)
+  below : (k : ℕ) → k < l.m → cell_in l.next k ≡ forces_from (node_of l.plan.nodes k) (cell_in l.row);
 }

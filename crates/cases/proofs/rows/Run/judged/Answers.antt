@@ -18,12 +18,10 @@ loop-clause-preserved-then-misses c =
     let step = c.in-Some.ensures.steps in
     let new : c.map_or.result ≡ lower c.loop-clause.first (k.node, k.value) = search rules in
     record {
-      can = tt;
-      ends = tt;
       walk = walk_more old.walk step;
       lowest = rw new
-      (lowest_more _ _ k.node k.value (walk_within old.walk step).node
-      (λ m v. missed_more (job_in s.plan.now) s.case (cell_in s.row) c.loop-clause.yielded k m v (sym c.misses.ensures ∙ c.if-misses.true)) c.loop-clause.first old.lowest);
+          (lowest_more _ _ k.node k.value (walk_within old.walk step).node
+          (λ m v. missed_more (job_in s.plan.now) s.case (cell_in s.row) c.loop-clause.yielded k m v (sym c.misses.ensures ∙ c.if-misses.true)) c.loop-clause.first old.lowest);
     }
 
 pub loop-clause-preserved : goal.loop-clause-preserved
@@ -31,8 +29,6 @@ loop-clause-preserved c =
     let s = c.args.self.now in
     let old = c.loop-clause.invariant in
     record {
-      can = tt;
-      ends = tt;
       walk = walk_more old.walk c.in-Some.ensures.steps;
       lowest = lowest_stays old.lowest (λ m v. missed_past (job_in s.plan.now) s.case (cell_in s.row) c.loop-clause.yielded c.in-Some.clause m v (sym c.misses.ensures ∙ c.if-misses.false));
     }

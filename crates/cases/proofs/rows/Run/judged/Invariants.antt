@@ -11,8 +11,6 @@ invariant-loop-clause l =
     let s = l.self in
     let p = s.plan.now in
     record {
-      can : (goal.iterator-loop-clause).can_next l.clause-iterator;
-      ends : (goal.iterator-loop-clause).is_finite l.clause-iterator;
       walk : Walking p l.time l.yielded (left l.clause-iterator);
-      lowest : Lowest p.size.n (missed_in (job_in p) s.case (cell_in s.row) l.yielded) l.first
+      lowest : Lowest p.size.n (missed_in (job_in p) s.case (cell_in s.row) l.yielded) l.first;
     }

@@ -27,8 +27,6 @@ loop-clause-preserved-then-counts c =
     let here : c.from-node.result < length c.loop-clause.row = omega (arith, (walk_within old.walk step).node, s.plan.now.decoded.n_most) in
     let on : counts (job_in s.plan.now) s.case Stimulus c.in-Some.clause ≡ true = sym c.counts.ensures ∙ c.if-counts.true in
     record {
-      can = tt;
-      ends = tt;
       size = simp length-set old.size;
       walk = walk_more old.walk step;
       taken = λ m h.

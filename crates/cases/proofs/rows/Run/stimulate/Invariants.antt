@@ -11,9 +11,7 @@ abbrev pub invariant-loop-clause : goal.invariant-loop-clause
 invariant-loop-clause l =
     let p = l.self.plan.now in
     record {
-      can : (goal.iterator-loop-clause).can_next l.clause-iterator;
-      ends : (goal.iterator-loop-clause).is_finite l.clause-iterator;
       size : length l.row ≡ length l.initial.row;
       walk : Walking p l.self.next l.yielded (left l.clause-iterator);
-      taken : (m : ℕ) → m < p.size.n → cell_in l.row m ≡ fold (joined_by (job_in p) l.self.case m) (cell_in l.initial.row m) l.yielded
+      taken : (m : ℕ) → m < p.size.n → cell_in l.row m ≡ fold (joined_by (job_in p) l.self.case m) (cell_in l.initial.row m) l.yielded;
     }
