@@ -1,0 +1,83 @@
+// The gates of a plan by their kind, and a step that visits them so: one tight loop for each kind.
+ghost use Rattle.std.specs.Prelude.{◌≡◌, take};
+ghost use Rattle.meaning.specs.Gates.{arity};
+ghost use Rattle.meaning.specs.declared.Gate.TheVariants.{Buf, Not, And, Or, Xor, Mux};
+ghost use Rattle.words.specs.Places.{Forces};
+ghost use Rattle.decoded.specs.Meant.{job_in};
+ghost use Rattle.groups.specs.Wired.{Gathered, Steps};
+ghost use Rattle.groups.specs.Steady.{Steady};
+
+use crate::rows::{Row, UNKNOWN};
+use crate::wires::Wires;
+use decoded::Plan;
+use meaning::Gate;
+use words::{Pair, gate_pair};
+
+// Made once a job.
+#[derive(Drop)]
+pub struct Gates<'a> {
+    pub plan: &'a Plan,
+    pub bufs: Wires,
+    pub nots: Wires,
+    pub ands: Wires,
+    pub ors: Wires,
+    pub xors: Wires,
+    pub muxes: Wires,
+    // INPUT, ZERO and ONE force the same at every time: what they do, and X for the others.
+    pub steady: Row,
+    ghost bufs_all: { Gathered (job_in plan.now) plan.now.size.n Buf (take bufs.count bufs.list) },
+    ghost nots_all: { Gathered (job_in plan.now) plan.now.size.n Not (take nots.count nots.list) },
+    ghost ands_all: { Gathered (job_in plan.now) plan.now.size.n And (take ands.count ands.list) },
+    ghost ors_all: { Gathered (job_in plan.now) plan.now.size.n Or (take ors.count ors.list) },
+    ghost xors_all: { Gathered (job_in plan.now) plan.now.size.n Xor (take xors.count xors.list) },
+    ghost muxes_all: { Gathered (job_in plan.now) plan.now.size.n Mux (take muxes.count muxes.list) },
+    ghost is_steady: { Steady (job_in plan.now) steady },
+}
+
+// What a gate without operands forces; one that has some is handed nodes that could be either.
+fn steady_pair(gate: Gate) -> Pair
+    ensures { arity gate ≡ 0 → (p q r : Pair) → Forces gate p q r result }
+{
+    gate_pair(gate, UNKNOWN, UNKNOWN, UNKNOWN)
+}
+
+fn steady_row(plan: &Plan) -> Row
+    ensures { Steady (job_in plan.now) result }
+{
+    let mut row = [UNKNOWN; 1008];
+    for m in 0..plan.size.n {
+        row[m] = steady_pair(plan.nodes[m].gate);
+    }
+    row
+}
+
+impl<'a> Gates<'a> {
+    pub fn new(plan: &'a Plan) -> Gates<'a>
+        ensures { result.plan.now ≡ plan.now }
+    {
+        Gates {
+            plan,
+            bufs: Wires::of(plan, Gate::Buf),
+            nots: Wires::of(plan, Gate::Not),
+            ands: Wires::of(plan, Gate::And),
+            ors: Wires::of(plan, Gate::Or),
+            xors: Wires::of(plan, Gate::Xor),
+            muxes: Wires::of(plan, Gate::Mux),
+            steady: steady_row(plan),
+        }
+    }
+
+    // What all gates force from one row is written to another, which has what those without operands force.
+    pub fn step(&self, now: &Row, next: &mut Row)
+        requires { Steady (job_in self.now.plan.now) next.old }
+        ensures steps { Steps (job_in self.now.plan.now) now.now next.new }
+        ensures steady { Steady (job_in self.now.plan.now) next.new }
+    {
+        self.bufs.visit(|p, q, r| gate_pair(Gate::Buf, p, q, r), now, next);
+        self.nots.visit(|p, q, r| gate_pair(Gate::Not, p, q, r), now, next);
+        self.ands.visit(|p, q, r| gate_pair(Gate::And, p, q, r), now, next);
+        self.ors.visit(|p, q, r| gate_pair(Gate::Or, p, q, r), now, next);
+        self.xors.visit(|p, q, r| gate_pair(Gate::Xor, p, q, r), now, next);
+        self.muxes.visit(|p, q, r| gate_pair(Gate::Mux, p, q, r), now, next);
+    }
+}
