@@ -1,9 +1,7 @@
 -- What reading a text answers: each refusal, and the records written.
 -- Assumes nothing.
-use borrow.Author.Tests.{not-true, not-false}
 use mathlib.Core.Path.{◌≡◌, refl, sym, ◌∙◌, subst}
-use mathlib.Core.Logic.{inl, inr}
-use mathlib.Core.Bool.{Bool, true, false, not, ◌&&◌}
+use mathlib.Core.Bool.{Bool, true, false, ◌&&◌}
 use mathlib.Core.List.{List}
 use native.Mathlib.Omega.{arith}
 use Prim.Native.Nat.{ℕ, ◌*◌, ◌≤◌}
@@ -14,54 +12,44 @@ use Rattle.stored.specs.Broken.{Limits}
 use Rattle.stored.proofs.RuleTests.{limits_rule}
 use Rattle.texts.specs.Putting.{Puts}
 use Rattle.texts.proofs.PutLaws.{front_is, front_all}
-use Rattle.assertions.specs.declared.TextRead.TheVariants.{Written, Refused}
-use Rattle.assertions.specs.declared.reading.Whole.{Whole}
-use Rattle.assertions.specs.declared.reading.Whole.TheVariants.{Read, Stopped}
+use Rattle.std.specs.Prelude.{Ok, Err}
+use Rattle.assertions.specs.declared.TextRefusal.TheVariants.{Header, Text, Room as ListTooShort}
 use Rattle.grammar.specs.Grammar.{Reads, limits}
 use Rattle.assertions.specs.Answering.{Room, Answered}
-use Rattle.grammar.specs.Points.{start}
-use Rattle.assertions.specs.TextsRead.{RestAsked, TextTo, TextNone, TextCases, TextAt}
+use Rattle.assertions.specs.TextsRead.{RestAsked, TextTo, TextNone}
 use Rattle.grammar.proofs.Readings.{read_is, stop_is}
 
--- what was answered, once it is known which
-module _ {k n : ℕ} {text es es' cs cs' : List ℕ} {r : Whole} (x : TextAt k n false start 0 text es es' cs cs' r) where
-  pub whole_to : {f d : ℕ} → r ≡ Read f d → TextTo k n false start 0 text es es' cs cs' f d
-  whole_to is = subst (TextCases k n false start 0 text es es' cs cs') is x.says
-
-  pub whole_none : {j : ℕ} → r ≡ Stopped j → TextNone k n false start 0 text es es' cs cs' j
-  whole_none is = subst (TextCases k n false start 0 text es es' cs cs') is x.says
-
 -- k and n are tested first
-within : (k n : ℕ) {t : Bool} → t ≡ limits k n → not t ≡ false → limits k n ≡ true
-within k n {t} t-is h = sym t-is ∙ not-false t h
+within : (k n : ℕ) {t : Bool} → t ≡ limits k n → t ≡ true → limits k n ≡ true
+within k n {t} t-is h = sym t-is ∙ h
 
 kept : (k n : ℕ) → limits k n ≡ true → Limits (record { k = k; n = n; e = 0; c = 0 })
 kept k n l = (limits_rule (record { k = k; n = n; e = 0; c = 0 })).0 l
 
-pub refused_limits : (k n : ℕ) {text expressions clauses : List ℕ} {t : Bool} → t ≡ limits k n → not t ≡ true → Answered k n text expressions clauses expressions clauses (Refused 4 0)
-refused_limits k n {t = t} t-is h = record { says = record { why = inl (refl, refl, sym t-is ∙ not-true t h); expressions_stay = refl; clauses_stay = refl } }
+pub refused_limits : (k n : ℕ) {text expressions clauses : List ℕ} {t : Bool} → t ≡ limits k n → t ≡ false → Answered k n text expressions clauses expressions clauses (Err Header)
+refused_limits k n {t = t} t-is h = record { says = record { why = sym t-is ∙ h; expressions_stay = refl; clauses_stay = refl } }
 
-pub text_asked : (k n : ℕ) {text es cs : List ℕ} {t : Bool} → t ≡ limits k n → not t ≡ false → 4032 ≤ length es → 4032 ≤ length cs → RestAsked k n 0 0 0 text es cs
+pub text_asked : (k n : ℕ) {text es cs : List ℕ} {t : Bool} → t ≡ limits k n → t ≡ true → 4032 ≤ length es → 4032 ≤ length cs → RestAsked k n 0 0 0 text es cs
 text_asked k n t-is h a b =
     let l = kept k n (within k n t-is h) in
     record { inside = omega arith; few_variables = l.k_most; few_nodes = omega (arith, l.n_most); few_e = omega arith; few_c = omega arith; enough_e = a; enough_c = b }
 
-pub refused_text : (k n : ℕ) {text expressions clauses es es' cs cs' : List ℕ} {j : ℕ} {t : Bool} → t ≡ limits k n → not t ≡ false → TextNone k n false start 0 text es es' cs cs' j
-    → Answered k n text expressions clauses expressions clauses (Refused 15 j)
+pub refused_text : (k n : ℕ) {text expressions clauses es es' cs cs' : List ℕ} {j : ℕ} {t : Bool} → t ≡ limits k n → t ≡ true → TextNone k n text es es' cs cs' j
+    → Answered k n text expressions clauses expressions clauses (Err (Text j))
 refused_text k n {text} t-is h x =
     let w = within k n t-is h in
     let l = kept k n w in
-    record { says = record { why = inr (inl (refl, w, stop_is k n (omega (arith, l.k_most)) l.n_least text x.comes)); expressions_stay = refl; clauses_stay = refl } }
+    record { says = record { why = (w, stop_is k n (omega (arith, l.k_most)) l.n_least text x.comes); expressions_stay = refl; clauses_stay = refl } }
 
-module _ (k n : ℕ) {text es es' cs cs' : List ℕ} {f d : ℕ} {t : Bool} (t-is : t ≡ limits k n) (h : not t ≡ false) (x : TextTo k n false start 0 text es es' cs cs' f d) where
+module _ (k n : ℕ) {text es es' cs cs' : List ℕ} {f d : ℕ} {t : Bool} (t-is : t ≡ limits k n) (h : t ≡ true) (x : TextTo k n text es es' cs cs' f d) where
   read_as : Reads k n x.t text
   read_as = let l = kept k n (within k n t-is h) in read_is k n (omega (arith, l.k_most)) l.n_least text x.comes
 
-  pub refused_room : {expressions clauses : List ℕ} {u : Bool} → u ≡ leb (8 * f) (length expressions) && leb (8 * d) (length clauses) → not u ≡ true → Answered k n text expressions clauses expressions clauses (Refused 13 0)
+  pub refused_room : {expressions clauses : List ℕ} {u : Bool} → u ≡ leb (8 * f) (length expressions) && leb (8 * d) (length clauses) → u ≡ false → Answered k n text expressions clauses expressions clauses (Err ListTooShort)
   refused_room {expressions} {clauses} {u} u-is l =
       record {
         says = record {
-          why = inr (inr (refl, refl, within k n t-is h, record { text = x.t; reads = read_as; short = λ room. no_room room }));
+          why = (within k n t-is h, record { text = x.t; reads = read_as; short = λ room. no_room room });
           expressions_stay = refl;
           clauses_stay = refl;
         };
@@ -70,12 +58,12 @@ module _ (k n : ℕ) {text es es' cs cs' : List ℕ} {f d : ℕ} {t : Bool} (t-i
       no_room : ¬ Room x.t expressions clauses
       no_room room =
           let yes_room : leb (8 * f) (length expressions) && leb (8 * d) (length clauses) ≡ true = simp says (omega (arith, room.0, x.put_e.end_is), omega (arith, room.1, x.put_c.end_is)) in
-          both_ways yes_room (sym u-is ∙ not-true u l)
+          both_ways yes_room (sym u-is ∙ l)
 
-  pub written : {expressions clauses : List ℕ} {u : Bool} {expressions' clauses' : List ℕ} {a b : ℕ} → u ≡ leb (8 * f) (length expressions) && leb (8 * d) (length clauses) → not u ≡ false
-      → Puts (take (8 * f) es') 0 expressions expressions' a → Puts (take (8 * d) cs') 0 clauses clauses' b → Answered k n text expressions clauses expressions' clauses' (Written f d)
+  pub written : {expressions clauses : List ℕ} {u : Bool} {expressions' clauses' : List ℕ} {a b : ℕ} → u ≡ leb (8 * f) (length expressions) && leb (8 * d) (length clauses) → u ≡ true
+      → Puts (take (8 * f) es') 0 expressions expressions' a → Puts (take (8 * d) cs') 0 clauses clauses' b → Answered k n text expressions clauses expressions' clauses' (Ok (record { expressions = f; clauses = d }))
   written {expressions} {clauses} {u} {expressions'} {clauses'} {a} {b} u-is l p q =
-      let r = simp says at (sym u-is ∙ not-false u l) in
+      let r = simp says at (sym u-is ∙ l) in
       record {
         says = record {
           in_limits = within k n t-is h;
@@ -90,5 +78,5 @@ module _ (k n : ℕ) {text es es' cs cs' : List ℕ} {f d : ℕ} {t : Bool} (t-i
       }
 
   -- what the lists' room says of the pieces
-  pub room_says : {expressions clauses : ℕ} {u : Bool} → u ≡ leb (8 * f) expressions && leb (8 * d) clauses → not u ≡ false → (8 * f ≤ expressions) × (8 * d ≤ clauses)
-  room_says {u = u} u-is l = simp says at (sym u-is ∙ not-false u l)
+  pub room_says : {expressions clauses : ℕ} {u : Bool} → u ≡ leb (8 * f) expressions && leb (8 * d) clauses → u ≡ true → (8 * f ≤ expressions) × (8 * d ≤ clauses)
+  room_says {u = u} u-is l = simp says at (sym u-is ∙ l)

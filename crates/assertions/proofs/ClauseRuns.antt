@@ -10,8 +10,6 @@ use Prim.Native.Nat.{ℕ, ◌+◌, ◌-◌, ◌*◌, ◌<◌}
 use lib.Dec.{eqb}
 use Rattle.scans.proofs.Bools.{both_ways, left_true, right_true}
 use Rattle.texts.specs.Putting.{Puts}
-use Rattle.assertions.specs.declared.lists.ClauseRead.{ClauseRead}
-use Rattle.assertions.specs.declared.lists.ClauseRead.TheVariants.{Read, Stopped}
 use Rattle.grammar.specs.Items.{WHEN, Mark, NOT, OPEN, COLON, word, mark_byte, letters}
 use Rattle.grammar.specs.Guards.{Guard}
 use Rattle.grammar.specs.Records.{guard_place, clause_bytes}
@@ -20,7 +18,7 @@ use Rattle.grammar.specs.Bytewise.{ready, stops, reading}
 use Rattle.phrases.specs.Places.{is_at, Stands, Skips, Broken, Spelt}
 use Rattle.phrases.specs.GuardsRead.{in_phase, wanting, having, Over, GuardTo, GuardNone, GuardAsked}
 use Rattle.assertions.specs.ClausesRead.{awaiting, ToldTo, ToldNone}
-use Rattle.assertions.specs.ListsRead.{count_of, ClauseAsked, ClauseTo, ClauseNone, ClauseCases, ClauseAt}
+use Rattle.assertions.specs.ListsRead.{count_of, ClauseAsked, ClauseTo, ClauseNone}
 use Rattle.grammar.proofs.Frames.{fresh_none}
 use Rattle.phrases.proofs.Standing.{stands, stands_not}
 use Rattle.phrases.proofs.Feeding.{run_past, run_mark, mark_goes}
@@ -29,14 +27,6 @@ use Rattle.phrases.proofs.FrameLaws.{having_over}
 use Rattle.phrases.proofs.LevelLaws.{wanted, had}
 use Rattle.phrases.proofs.Stopping.{touching_stops}
 use Rattle.phrases.proofs.WordRuns.{word_goes, word_stops}
-
--- what was answered, once it is known which
-module _ {phase : _} {touching : Bool} {k n side e c i : ℕ} {text es es' cs cs' : List ℕ} {r : ClauseRead} (x : ClauseAt phase touching k n side e c i text es es' cs cs' r) where
-  pub clause_to : {q f : ℕ} → r ≡ Read q f → ClauseTo phase touching k n side e c i text es es' cs cs' q f
-  clause_to is = subst (ClauseCases phase touching k n side e c i text es es' cs cs') is x.says
-
-  pub clause_none : {j : ℕ} → r ≡ Stopped j → ClauseNone phase touching k n e c i text es es' cs cs' j
-  clause_none is = subst (ClauseCases phase touching k n side e c i text es es' cs cs') is x.says
 
 module _ (k n : ℕ) (text : List ℕ) (p : Point) (e : ℕ) where
   -- where a guard begins just after `when`
@@ -122,22 +112,26 @@ module _ {k n e c i : ℕ} {text es cs : List ℕ} (asked : ClauseAsked k n e c 
   when_none s b =
       record { size_e = refl; size_c = refl; comes = λ p same. word_stops k n text (in_phase p e listing) WHEN (when_steps k n text p e same asked.room_e asked.room_c) (λ f. absurd (f s)) b }
 
-  pub when_read : {es' cs' : List ℕ} {side q : ℕ} {r : ClauseRead} → Spelt text i (letters WHEN) q → ClauseAt (guarding []) true k n side e c q text es es' cs cs' r → ClauseAt listing false k n side e c i text es es' cs cs' r
-  when_read {es'} {cs'} {side} {q} {r} sp x = record { says = go r x.says }
-    where
-      on : (p : Point) → count_of p ≡ c → reading k n text i (ready false) (in_phase p e listing) ≡ reading k n text q (ready true) (in_phase p e (guarding []))
-      on p same = word_goes k n text (in_phase p e listing) WHEN (when_steps k n text p e same asked.room_e asked.room_c) sp
+  module _ {q : ℕ} (sp : Spelt text i (letters WHEN) q) where
+    on_when : (p : Point) → count_of p ≡ c → reading k n text i (ready false) (in_phase p e listing) ≡ reading k n text q (ready true) (in_phase p e (guarding []))
+    on_when p same = word_goes k n text (in_phase p e listing) WHEN (when_steps k n text p e same asked.room_e asked.room_c) sp
 
-      go : (r : ClauseRead) → ClauseCases (guarding []) true k n side e c q text es es' cs cs' r → ClauseCases listing false k n side e c i text es es' cs cs' r
-      go (Read u f) y =
-          record {
-            clause = y.clause;
-            past = omega (arith, sp.q_is, y.past);
-            inside = y.inside;
-            count = y.count;
-            few = y.few;
-            put_guard = y.put_guard;
-            put_clause = y.put_clause;
-            comes = λ p same. on p same ∙ y.comes p same;
-          }
-      go (Stopped j) y = record { size_e = y.size_e; size_c = y.size_c; comes = λ p same. on p same ∙ y.comes p same }
+    pub when_to : {es' cs' : List ℕ} {side u f : ℕ} → ClauseTo (guarding []) true k n side e c q text es es' cs cs' u f → ClauseTo listing false k n side e c i text es es' cs cs' u f
+    when_to y =
+        record {
+          clause = y.clause;
+          past = omega (arith, sp.q_is, y.past);
+          inside = y.inside;
+          count = y.count;
+          few = y.few;
+          put_guard = y.put_guard;
+          put_clause = y.put_clause;
+          comes = λ p same. on_when p same ∙ y.comes p same;
+        }
+
+    pub when_then_none : {es' cs' : List ℕ} {j : ℕ} → ClauseNone (guarding []) true k n e c q text es es' cs cs' j → ClauseNone listing false k n e c i text es es' cs cs' j
+    when_then_none y = record { size_e = y.size_e; size_c = y.size_c; comes = λ p same. on_when p same ∙ y.comes p same }
+
+    pub asked_after_when : ClauseAsked k n e c q text es cs
+    asked_after_when =
+        record { inside = sp.inside; few_variables = asked.few_variables; few_nodes = asked.few_nodes; room_e = asked.room_e; room_c = asked.room_c; enough_e = asked.enough_e; enough_c = asked.enough_c }

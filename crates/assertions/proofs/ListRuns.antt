@@ -14,8 +14,6 @@ use Rattle.scans.proofs.Bools.{both_ways}
 use Rattle.stored.specs.Bytes.{byte_at}
 use Rattle.texts.specs.Putting.{Puts}
 use Rattle.texts.proofs.PutLaws.{puts_then, ended_at, puts_none}
-use Rattle.assertions.specs.declared.lists.ListRead.{ListRead}
-use Rattle.assertions.specs.declared.lists.ListRead.TheVariants.{Listed, Unlisted}
 use Rattle.grammar.specs.Items.{Keyword, GIVEN, EXPECT, WHEN, IS, AT, word, letters}
 use Rattle.grammar.specs.Guards.{size}
 use Rattle.grammar.specs.Grammar.{Clause, sizes}
@@ -25,18 +23,10 @@ use Rattle.grammar.specs.Bytewise.{ready, stops, reading}
 use Rattle.phrases.specs.Places.{Stands, Skips, NoGap}
 use Rattle.phrases.specs.GuardsRead.{in_phase}
 use Rattle.assertions.specs.ClausesRead.{clause_added}
-use Rattle.assertions.specs.ListsRead.{count_of, ClauseAsked, ClauseTo, ClauseNone, list_added, ListTo, ListNone, ListOver, ListCases, ListAt}
+use Rattle.assertions.specs.ListsRead.{count_of, ClauseAsked, ClauseTo, ClauseNone, list_added, ListTo, ListNone}
 use Rattle.grammar.proofs.Steps.{length_added, none_added, more_added, sizes_snoc}
 use Rattle.phrases.proofs.Feeding.{run_gaps}
 use Rattle.phrases.proofs.Stopping.{nothing_goes}
-
--- what was answered, once it is known which
-module _ {k n side e c i : ℕ} {text es es' cs cs' : List ℕ} {r : ListRead} (x : ListAt k n side e c i text es es' cs cs' r) where
-  pub list_over : {q f d : ℕ} → r ≡ Listed q f d → ListOver k n side e c i text es es' cs cs' q f d
-  list_over is = subst (ListCases k n side e c i text es es' cs cs') is x.says
-
-  pub list_fails : {j : ℕ} → r ≡ Unlisted j → ListNone k n e c i text es es' cs cs' j
-  list_fails is = subst (ListCases k n side e c i text es es' cs cs') is x.says
 
 -- one clause more at the end of a list
 expressions_more : (e : ℕ) (l : List Clause) (x : Clause) → list_expressions e (l ++ x ∷ []) ≡ list_expressions e l ++ guard_records (e + sizes l) x.guard

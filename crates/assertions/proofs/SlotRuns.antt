@@ -2,39 +2,45 @@
 -- Assumes nothing.
 use borrow.Author.Tests.{eq-eqb, lt-ltb, le-ltb}
 use mathlib.Core.Path.{◌≡◌, refl, sym, ◌∙◌, subst}
-use mathlib.Core.Bool.{Bool, true, false, ◌&&◌}
+use mathlib.Core.Logic.{◌⊎◌, inl, inr}
+use mathlib.Core.Bool.{Bool, true, false}
 use mathlib.Core.List.{List, [], ◌∷◌, ◌++◌, append-nil}
 use mathlib.Core.Option.{some, none}
 use native.Mathlib.Decide.{dec_lt}
 use native.Mathlib.Omega.{arith}
 use Prim.Native.Nat.{ℕ, ◌+◌, ◌-◌, ◌*◌, ◌≤◌, ◌<◌}
-use lib.Dec.{ltb, eqb}
+use lib.Dec.{eqb}
 use lib.ListN.{length, drop, drop_of_length-le}
 use lib.Seq.{drop-cons}
 use Rattle.scans.proofs.Bools.{says, both_ways}
 use Rattle.stored.specs.Bytes.{byte_at}
+use Rattle.std.specs.Prelude.{Result, MatchResult, Ok, Err}
+use Rattle.phrases.specs.declared.items.Stopped.{Stopped}
 use Rattle.assertions.specs.declared.clauses.Counted.{Counted}
-use Rattle.assertions.specs.declared.clauses.Counted.TheVariants.{Number, Stuck}
 use Rattle.grammar.specs.Items.{Keyword, Mark, number, word, letters}
 use Rattle.grammar.specs.Guards.{Guard}
 use Rattle.grammar.specs.Points.{Slot, saying, below, telling, Point, word_number, ended, step, finished}
-use Rattle.grammar.specs.Bytewise.{Outcome, staying, going_on, run, ready, digits, fed, stops}
-use Rattle.phrases.specs.Places.{is_digit_at, Stands, Skips, NoGap, Broken, Spelt}
+use Rattle.grammar.specs.Bytewise.{Outcome, staying, going_on, run, ready, digits, is_digit, fed, stops}
+use Rattle.phrases.specs.Places.{Stands, Skips, NoGap, Broken, Spelt}
 use Rattle.phrases.specs.GuardsRead.{in_phase}
-use Rattle.assertions.specs.ClausesRead.{awaiting, Fills, Fails, CountedCases, CountedAt, LabelledAt}
+use Rattle.assertions.specs.ClausesRead.{awaiting, Fills, Fails, CountedAt, LabelledAt}
 use Rattle.grammar.proofs.Slots.{same_word}
-use Rattle.phrases.proofs.Standing.{Digit}
+use Rattle.phrases.proofs.Runs.{Digit}
 use Rattle.grammar.proofs.Fed.{fed_digit, fed_zero, fed_more}
 use Rattle.grammar.proofs.SpelledRuns.{NoDigit, number_passed}
 use Rattle.phrases.proofs.Feeding.{run_byte, run_some}
 use Rattle.phrases.proofs.Stopping.{touching_stops, nothing_goes}
 use Rattle.phrases.proofs.WordRuns.{word_goes, word_stops}
 
-digit_not : (text : List ℕ) (i : ℕ) → is_digit_at text i ≡ false → NoDigit (drop i text)
+-- no digit stands there
+abbrev NoDigitAt : List ℕ → ℕ → Type 0
+NoDigitAt text i = i < length text → is_digit (byte_at text i) ≡ false
+
+digit_not : (text : List ℕ) (i : ℕ) → NoDigitAt text i → NoDigit (drop i text)
 digit_not text i f = go (dec_lt i (length text))
   where
     go : Dec (i < length text) → NoDigit (drop i text)
-    go (yes h) = subst NoDigit (sym (drop-cons text i 0 h)) (rw (lt-ltb i (length text) h) at f)
+    go (yes h) = subst NoDigit (sym (drop-cons text i 0 h)) (f h)
     go (no h) = subst NoDigit (sym (drop_of_length-le text {i = i} (omega arith))) tt
 
 module _ (k n : ℕ) (text : List ℕ) (p : Point) (used : ℕ) (g : Guard) (limit : ℕ) (s : Slot) (ss : List Slot) (ns : List ℕ) where
@@ -65,15 +71,15 @@ module _ (k n : ℕ) (text : List ℕ) (p : Point) (used : ℕ) (g : Guard) (lim
   unfolding fed
   zero_digit i d = run_byte k n text i (digits 0) P d.inside ∙ rw (fed_zero k n P (byte_at text i) d.low d.high)
 
-  number_done : (i v : ℕ) → v < limit → is_digit_at text i ≡ false → awaiting k n text i (digits v) p used g (below limit ∷ s ∷ ss) ns ≡ awaiting k n text i (ready true) p used g (s ∷ ss) (ns ++ v ∷ [])
+  number_done : (i v : ℕ) → v < limit → NoDigitAt text i → awaiting k n text i (digits v) p used g (below limit ∷ s ∷ ss) ns ≡ awaiting k n text i (ready true) p used g (s ∷ ss) (ns ++ v ∷ [])
   unfolding step finished
   number_done i v h f = number_passed k n i v P (in_phase p used (telling g (s ∷ ss) (ns ++ v ∷ []))) (drop i text) (digit_not text i f) (rw (lt-ltb v limit h)) refl
 
-  no_number : (i : ℕ) → NoGap text i → is_digit_at text i ≡ false → awaiting k n text i (ready false) p used g (below limit ∷ s ∷ ss) ns ≡ stops i
+  no_number : (i : ℕ) → NoGap text i → NoDigitAt text i → awaiting k n text i (ready false) p used g (below limit ∷ s ∷ ss) ns ≡ stops i
   unfolding step finished
   no_number i clean f =
       nothing_goes k n text P i (λ _. refl) clean (λ m _. refl)
-      (λ d h st. let e : is_digit_at text i ≡ true = simp says (st.inside, (omega (arith, st.is), omega (arith, st.is))) in both_ways e f) (λ v _. refl) (λ w _. refl)
+      (λ d h st. let e : is_digit (byte_at text i) ≡ true = simp says (omega (arith, st.is), omega (arith, st.is)) in both_ways e (f st.inside)) (λ v _. refl) (λ w _. refl)
 
 -- digits so far
 pub record Counting (text : List ℕ) (limit i q v : ℕ) : Type 0 where
@@ -94,44 +100,40 @@ module _ {text : List ℕ} {limit i q v : ℕ} (c : Counting text limit i q v) w
       go (yes l) = omega (arith, c.small l)
       go (no l) = omega (arith, c.none_yet (omega (arith, c.forward)))
 
-  module _ {b : ℕ} (d : Digit text q) (same : b ≡ byte_at text q) (z : ltb i q && eqb v 0 ≡ false) where
-    not_zero : i < q → ¬ (v ≡ 0)
-    not_zero l e = let x : ltb i q && eqb v 0 ≡ true = simp says (l, e) in both_ways x z
-
-    counted : (k n : ℕ) (p : Point) (used : ℕ) (g : Guard) (s : Slot) (ss : List Slot) (ns : List ℕ) → awaiting k n text i (ready false) p used g (below limit ∷ s ∷ ss) ns ≡ made k n text p used g limit s ss ns q (10 * v + (b - 48))
-    counted k n p used g s ss ns = go (dec_lt i q)
+  -- one digit more, of value x
+  module _ {x : ℕ} (d : Digit text q) (same : x ≡ byte_at text q - 48) (some : (i < q) × ¬ (v ≡ 0) ⊎ (q ≤ i)) where
+    counted : (k n : ℕ) (p : Point) (used : ℕ) (g : Guard) (s : Slot) (ss : List Slot) (ns : List ℕ) → awaiting k n text i (ready false) p used g (below limit ∷ s ∷ ss) ns ≡ made k n text p used g limit s ss ns q (10 * v + x)
+    counted k n p used g s ss ns = go some
       where
-        go : Dec (i < q) → awaiting k n text i (ready false) p used g (below limit ∷ s ∷ ss) ns ≡ made k n text p used g limit s ss ns q (10 * v + (b - 48))
-        go (yes l) = c.comes l k n p used g s ss ns ∙ rw same (more_digit k n text p used g limit s ss ns q v d (not_zero l))
-        go (no l) =
+        go : (i < q) × ¬ (v ≡ 0) ⊎ (q ≤ i) → awaiting k n text i (ready false) p used g (below limit ∷ s ∷ ss) ns ≡ made k n text p used g limit s ss ns q (10 * v + x)
+        go (inl l) = c.comes l.0 k n p used g s ss ns ∙ rw same (more_digit k n text p used g limit s ss ns q v d l.1)
+        go (inr l) =
             let here : q ≡ i = omega (arith, c.forward) in
-            let first : 10 * v + (b - 48) ≡ byte_at text q - 48 = omega (arith, c.none_yet here) in
+            let first : 10 * v + x ≡ byte_at text q - 48 = omega (arith, c.none_yet here, same) in
             rw (first, sym here) (first_digit k n text p used g limit s ss ns q d)
 
-    pub counting_more : 10 * v + (b - 48) < limit → Counting text limit i (q + 1) (10 * v + (b - 48))
+    pub counting_more : 10 * v + x < limit → Counting text limit i (q + 1) (10 * v + x)
     counting_more h =
         record {
           forward = omega (arith, c.forward);
           inside = omega (arith, d.inside);
           none_yet = λ e. absurd (omega (arith, c.forward));
           small = λ _. h;
-          comes = λ l k n p used g s ss ns. counted k n p used g s ss ns ∙ made_goes k n text p used g limit s ss ns q (10 * v + (b - 48)) h;
+          comes = λ l k n p used g s ss ns. counted k n p used g s ss ns ∙ made_goes k n text p used g limit s ss ns q (10 * v + x) h;
         }
 
-    pub counting_large : limit ≤ 10 * v + (b - 48) → Fails text false (below limit ∷ []) i q
-    counting_large h = record { comes = λ k n p used g s ss ns. counted k n p used g s ss ns ∙ made_stops k n text p used g limit s ss ns q (10 * v + (b - 48)) h }
+    pub counting_large : limit ≤ 10 * v + x → Fails text false (below limit ∷ []) i q
+    counting_large h = record { comes = λ k n p used g s ss ns. counted k n p used g s ss ns ∙ made_stops k n text p used g limit s ss ns q (10 * v + x) h }
 
-  pub counting_zero : Digit text q → ltb i q && eqb v 0 ≡ true → Fails text false (below limit ∷ []) i q
-  counting_zero d z =
-      let x = simp says at z in
-      record { comes = λ k n p used g s ss ns. c.comes x.0 k n p used g s ss ns ∙ rw x.1 (zero_digit k n text p used g limit s ss ns q d) }
+  pub counting_zero : Digit text q → i < q → v ≡ 0 → Fails text false (below limit ∷ []) i q
+  counting_zero d l z = record { comes = λ k n p used g s ss ns. c.comes l k n p used g s ss ns ∙ rw z (zero_digit k n text p used g limit s ss ns q d) }
 
-  pub counting_end : is_digit_at text q ≡ false → ¬ (q ≡ i) → (v < limit) × Fills text false (below limit ∷ []) i q v
+  pub counting_end : NoDigitAt text q → ¬ (q ≡ i) → (v < limit) × Fills text false (below limit ∷ []) i q v
   counting_end f apart =
       let l : i < q = omega (arith, c.forward) in
       (c.small l, record { past = l; inside = c.inside; comes = λ k n p used g s ss ns. c.comes l k n p used g s ss ns ∙ number_done k n text p used g limit s ss ns q v (c.small l) f })
 
-pub counting_empty : {text : List ℕ} {limit i : ℕ} → NoGap text i → is_digit_at text i ≡ false → Fails text false (below limit ∷ []) i i
+pub counting_empty : {text : List ℕ} {limit i : ℕ} → NoGap text i → NoDigitAt text i → Fails text false (below limit ∷ []) i i
 counting_empty {text} {limit} {i} clean f = record { comes = λ k n p used g s ss ns. no_number k n text p used g limit s ss ns i clean f }
 
 -- a word, and a number after it, with gaps before each
@@ -161,14 +163,14 @@ module _ (k n : ℕ) (text : List ℕ) (p : Point) (used : ℕ) (g : Guard) (s :
 
 module _ (text letters' : List ℕ) (limit i : ℕ) where
   -- no gap before the word
-  pub labelled_touching : {r : ℕ} → Skips text i r → r ≡ i → LabelledAt text letters' limit i (Stuck i)
+  pub labelled_touching : {r : ℕ} → Skips text i r → r ≡ i → LabelledAt text letters' limit i (Err (record { at = i }))
   labelled_touching sk e = record { counted = λ w same. record { says = record { comes = λ k n p used g s ss ns. touching_slot k n text p used g (below limit) (s ∷ ss) ns (saying w) (λ m. refl) i (subst (NoGap text) e sk.ends) } } }
 
   module _ {r : ℕ} (sk : Skips text i r) (some-gap : ¬ (r ≡ i)) where
     on_word : (w : Keyword) (k n : ℕ) (p : Point) (used : ℕ) (g : Guard) (s : Slot) (ss : List Slot) (ns : List ℕ) → awaiting k n text i (ready true) p used g (saying w ∷ below limit ∷ s ∷ ss) ns ≡ awaiting k n text r (ready false) p used g (saying w ∷ below limit ∷ s ∷ ss) ns
     on_word w k n p used g s ss ns = run_some k n text true (in_phase p used (telling g (saying w ∷ below limit ∷ s ∷ ss) ns)) sk.over (omega (arith, sk.over.forward))
 
-    pub labelled_broken : {j : ℕ} → Broken text r letters' j → LabelledAt text letters' limit i (Stuck j)
+    pub labelled_broken : {j : ℕ} → Broken text r letters' j → LabelledAt text letters' limit i (Err (record { at = j }))
     labelled_broken {j} b =
         record { counted = λ w same. record { says = record { comes = λ k n p used g s ss ns. on_word w k n p used g s ss ns ∙ slot_word_stops k n text p used g (below limit) (s ∷ ss) ns w sk.ends (subst (λ l. Broken text r l j) (sym same) b) } } }
 
@@ -176,17 +178,18 @@ module _ (text letters' : List ℕ) (limit i : ℕ) where
       on_number : (w : Keyword) → letters w ≡ letters' → (k n : ℕ) (p : Point) (used : ℕ) (g : Guard) (s : Slot) (ss : List Slot) (ns : List ℕ) → awaiting k n text i (ready true) p used g (saying w ∷ below limit ∷ s ∷ ss) ns ≡ awaiting k n text q (ready true) p used g (below limit ∷ s ∷ ss) ns
       on_number w same k n p used g s ss ns = on_word w k n p used g s ss ns ∙ slot_word_goes k n text p used g (below limit) (s ∷ ss) ns w (subst (λ l. Spelt text r l q) (sym same) sp)
 
-      pub labelled_close : {t : ℕ} → Skips text q t → t ≡ q → LabelledAt text letters' limit i (Stuck q)
+      pub labelled_close : {t : ℕ} → Skips text q t → t ≡ q → LabelledAt text letters' limit i (Err (record { at = q }))
       labelled_close sk' e = record { counted = λ w same. record { says = record { comes = λ k n p used g s ss ns. on_number w same k n p used g s ss ns ∙ touching_slot k n text p used g s ss ns (below limit) (λ m. refl) q (subst (NoGap text) e sk'.ends) } } }
 
       module _ {t : ℕ} (sk' : Skips text q t) (gap-there : ¬ (t ≡ q)) where
         on_digits : (w : Keyword) → letters w ≡ letters' → (k n : ℕ) (p : Point) (used : ℕ) (g : Guard) (s : Slot) (ss : List Slot) (ns : List ℕ) → awaiting k n text i (ready true) p used g (saying w ∷ below limit ∷ s ∷ ss) ns ≡ awaiting k n text t (ready false) p used g (below limit ∷ s ∷ ss) ns
         on_digits w same k n p used g s ss ns = on_number w same k n p used g s ss ns ∙ run_some k n text true (in_phase p used (telling g (below limit ∷ s ∷ ss) ns)) sk'.over (omega (arith, sk'.over.forward))
 
-        pub labelled_number : {c : Counted} → CountedAt text false (below limit ∷ []) limit t c → LabelledAt text letters' limit i c
+        pub labelled_number : {c : Result Counted Stopped} → CountedAt text false (below limit ∷ []) limit t c → LabelledAt text letters' limit i c
         labelled_number {c} x = record { counted = λ w same. record { says = go c w same x.says } }
           where
-            go : (c : Counted) (w : Keyword) → letters w ≡ letters' → CountedCases text false (below limit ∷ []) limit t c → CountedCases text true (saying w ∷ below limit ∷ []) limit i c
-            go (Number v u) w same y =
+            go : (c : Result Counted Stopped) (w : Keyword) → letters w ≡ letters' → MatchResult c (λ y. (y.value < limit) × Fills text false (below limit ∷ []) t y.at y.value) (λ y. Fails text false (below limit ∷ []) t y.at)
+                → MatchResult c (λ y. (y.value < limit) × Fills text true (saying w ∷ below limit ∷ []) i y.at y.value) (λ y. Fails text true (saying w ∷ below limit ∷ []) i y.at)
+            go (Ok u) w same y =
                 (y.0, record { past = omega (arith, sk.over.forward, sp.q_is, sk'.over.forward, y.1.past); inside = y.1.inside; comes = λ k n p used g s ss ns. on_digits w same k n p used g s ss ns ∙ y.1.comes k n p used g s ss ns })
-            go (Stuck j) w same y = record { comes = λ k n p used g s ss ns. on_digits w same k n p used g s ss ns ∙ y.comes k n p used g s ss ns }
+            go (Err j) w same y = record { comes = λ k n p used g s ss ns. on_digits w same k n p used g s ss ns ∙ y.comes k n p used g s ss ns }

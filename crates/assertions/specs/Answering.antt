@@ -1,8 +1,9 @@
 -- What reading a text answers, and what it leaves in the two lists lent.
 -- Assumes nothing.
-use Rattle.std.specs.Prelude.{◌≡◌, ◌⊎◌, true, false, List, ◌++◌, ℕ, ◌*◌, ◌≤◌, length, drop}
-use Rattle.assertions.specs.declared.TextRead.{TextRead}
-use Rattle.assertions.specs.declared.TextRead.TheVariants.{Written, Refused}
+use Rattle.std.specs.Prelude.{◌≡◌, true, false, List, ◌++◌, ℕ, ◌*◌, ◌≤◌, length, drop, Result, MatchResult}
+use Rattle.assertions.specs.declared.Written.{Written}
+use Rattle.assertions.specs.declared.TextRefusal.{TextRefusal}
+use Rattle.assertions.specs.declared.TextRefusal.TheVariants.{Header, Text as TextStops, Room as ListTooShort}
 use Rattle.grammar.specs.Grammar.{limits, Text, Reads}
 use Rattle.grammar.specs.Starts.{StopsAt}
 use Rattle.grammar.specs.Records.{text_expressions, text_clauses}
@@ -27,22 +28,17 @@ pub record WrittenAs (k n : ℕ) (s expressions clauses expressions' clauses' : 
   pub e_is : 8 * e ≡ length (text_expressions text)
   pub c_is : 8 * c ≡ length (text_clauses text)
 
--- 4 for k or n, 15 for the text, 13 for a list too short, in that order
-abbrev pub Why : ℕ → ℕ → List ℕ → List ℕ → List ℕ → ℕ → ℕ → Type 0
-Why k n s expressions clauses number byte =
-    ((number ≡ 4) × (byte ≡ 0) × (limits k n ≡ false))
-    ⊎ (((number ≡ 15) × (limits k n ≡ true) × StopsAt k n s byte)
-    ⊎ ((number ≡ 13) × (byte ≡ 0) × (limits k n ≡ true) × NoRoom k n s expressions clauses))
+-- k or n is beyond its limit, or the text stops there being the start of an accepted one, or it reads and a list is too short
+abbrev pub Why : ℕ → ℕ → List ℕ → List ℕ → List ℕ → TextRefusal → Type 0
+Why k n s expressions clauses Header = limits k n ≡ false
+Why k n s expressions clauses (TextStops byte) = (limits k n ≡ true) × StopsAt k n s byte
+Why k n s expressions clauses ListTooShort = (limits k n ≡ true) × NoRoom k n s expressions clauses
 
 -- the lists stay
-pub record RefusedAs (k n : ℕ) (s expressions clauses expressions' clauses' : List ℕ) (number byte : ℕ) : Type 0 where
-  pub why : Why k n s expressions clauses number byte
+pub record RefusedAs (k n : ℕ) (s expressions clauses expressions' clauses' : List ℕ) (refusal : TextRefusal) : Type 0 where
+  pub why : Why k n s expressions clauses refusal
   pub expressions_stay : expressions' ≡ expressions
   pub clauses_stay : clauses' ≡ clauses
 
-abbrev pub AnswerCases : ℕ → ℕ → List ℕ → List ℕ → List ℕ → List ℕ → List ℕ → TextRead → Type 0
-AnswerCases k n s expressions clauses expressions' clauses' (Written e c) = WrittenAs k n s expressions clauses expressions' clauses' e c
-AnswerCases k n s expressions clauses expressions' clauses' (Refused number byte) = RefusedAs k n s expressions clauses expressions' clauses' number byte
-
-pub record Answered (k n : ℕ) (s expressions clauses expressions' clauses' : List ℕ) (r : TextRead) : Type 0 where
-  pub says : AnswerCases k n s expressions clauses expressions' clauses' r
+pub record Answered (k n : ℕ) (s expressions clauses expressions' clauses' : List ℕ) (r : Result Written TextRefusal) : Type 0 where
+  pub says : MatchResult r (λ w. WrittenAs k n s expressions clauses expressions' clauses' w.expressions w.clauses) (RefusedAs k n s expressions clauses expressions' clauses')

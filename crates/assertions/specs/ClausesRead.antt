@@ -1,10 +1,9 @@
 -- What reading the rest of a clause at a place comes to.
 -- Assumes nothing.
-use Rattle.std.specs.Prelude.{◌≡◌, Bool, true, false, List, [], ◌∷◌, ◌++◌, ℕ, ◌≤◌, ◌<◌, length, drop}
+use Rattle.std.specs.Prelude.{◌≡◌, Bool, true, false, List, [], ◌∷◌, ◌++◌, ℕ, ◌≤◌, ◌<◌, length, drop, Result, MatchResult}
 use Rattle.assertions.specs.declared.clauses.Counted.{Counted}
-use Rattle.assertions.specs.declared.clauses.Counted.TheVariants.{Number, Stuck}
 use Rattle.assertions.specs.declared.clauses.Told.{Told}
-use Rattle.assertions.specs.declared.clauses.Told.TheVariants.{Said, Untold}
+use Rattle.phrases.specs.declared.items.Stopped.{Stopped}
 use Rattle.grammar.specs.Items.{Keyword, letters as spelled_so}
 use Rattle.grammar.specs.Guards.{Guard}
 use Rattle.grammar.specs.Grammar.{Clause}
@@ -26,16 +25,12 @@ pub record Fills (text : List ℕ) (touching : Bool) (slots : List Slot) (i q v 
 pub record Fails (text : List ℕ) (touching : Bool) (slots : List Slot) (i j : ℕ) : Type 0 where
   pub comes : (k n : ℕ) (p : Point) (used : ℕ) (g : Guard) (s : Slot) (ss : List Slot) (ns : List ℕ) → awaiting k n text i (ready touching) p used g (slots ++ s ∷ ss) ns ≡ stops j
 
-abbrev pub CountedCases : List ℕ → Bool → List Slot → ℕ → ℕ → Counted → Type 0
-CountedCases text touching slots limit i (Number v q) = (v < limit) × Fills text touching slots i q v
-CountedCases text touching slots limit i (Stuck j) = Fails text touching slots i j
-
 -- a number in the slots, below the limit
-pub record CountedAt (text : List ℕ) (touching : Bool) (slots : List Slot) (limit i : ℕ) (r : Counted) : Type 0 where
-  pub says : CountedCases text touching slots limit i r
+pub record CountedAt (text : List ℕ) (touching : Bool) (slots : List Slot) (limit i : ℕ) (r : Result Counted Stopped) : Type 0 where
+  pub says : MatchResult r (λ c. (c.value < limit) × Fills text touching slots i c.at c.value) (λ s. Fails text touching slots i s.at)
 
 -- a word with these letters, and a number
-pub record LabelledAt (text letters : List ℕ) (limit i : ℕ) (r : Counted) : Type 0 where
+pub record LabelledAt (text letters : List ℕ) (limit i : ℕ) (r : Result Counted Stopped) : Type 0 where
   pub counted : (w : Keyword) → spelled_so w ≡ letters → CountedAt text true (saying w ∷ below limit ∷ []) limit i r
 
 -- the clause that has been read is added
@@ -54,9 +49,5 @@ pub record ToldTo (text : List ℕ) (touching : Bool) (slots : List Slot) (ns : 
 pub record ToldNone (text : List ℕ) (touching : Bool) (slots : List Slot) (ns : List ℕ) (i j : ℕ) : Type 0 where
   pub comes : (k n : ℕ) (p : Point) (used : ℕ) (g : Guard) → awaiting k n text i (ready touching) p used g slots ns ≡ stops j
 
-abbrev pub ToldCases : List ℕ → Bool → List Slot → List ℕ → ℕ → Told → Type 0
-ToldCases text touching slots ns i (Said node value time q) = ToldTo text touching slots ns i node value time q
-ToldCases text touching slots ns i (Untold j) = ToldNone text touching slots ns i j
-
-pub record ToldAt (text : List ℕ) (touching : Bool) (slots : List Slot) (ns : List ℕ) (i : ℕ) (r : Told) : Type 0 where
-  pub says : ToldCases text touching slots ns i r
+pub record ToldAt (text : List ℕ) (touching : Bool) (slots : List Slot) (ns : List ℕ) (i : ℕ) (r : Result Told Stopped) : Type 0 where
+  pub says : MatchResult r (λ t. ToldTo text touching slots ns i t.node t.value t.time t.at) (λ s. ToldNone text touching slots ns i s.at)

@@ -1,3 +1,5 @@
+pub mod Sides
+pub mod Refusals
 pub mod Answering
 pub mod ClausesRead
 pub mod ListsRead

@@ -1,11 +1,10 @@
 -- What reading a clause, a list of clauses and a whole text comes to.
 -- Assumes nothing.
-use Rattle.std.specs.Prelude.{◌≡◌, Bool, false, cond, List, ◌++◌, ℕ, ◌+◌, ◌*◌, ◌≤◌, ◌<◌, length}
+use Rattle.std.specs.Prelude.{◌≡◌, Bool, false, cond, List, ◌++◌, ℕ, ◌+◌, ◌*◌, ◌≤◌, ◌<◌, length, Result, MatchResult}
 use Rattle.texts.specs.Putting.{Puts}
-use Rattle.assertions.specs.declared.lists.ClauseRead.{ClauseRead}
-use Rattle.assertions.specs.declared.lists.ClauseRead.TheVariants.{Read, Stopped}
-use Rattle.assertions.specs.declared.lists.ListRead.{ListRead}
-use Rattle.assertions.specs.declared.lists.ListRead.TheVariants.{Listed, Unlisted}
+use Rattle.phrases.specs.declared.guards.GuardEnd.{GuardEnd}
+use Rattle.phrases.specs.declared.items.Stopped.{Stopped}
+use Rattle.assertions.specs.declared.lists.ListEnd.{ListEnd}
 use Rattle.grammar.specs.Guards.{size}
 use Rattle.grammar.specs.Grammar.{Clause, sizes}
 use Rattle.grammar.specs.Records.{guard_records, clause_record, list_expressions, list_clauses}
@@ -45,12 +44,8 @@ pub record ClauseNone (phase : Phase) (touching : Bool) (k n e c i : ℕ) (text 
   pub size_c : length cs' ≡ length cs
   pub comes : (p : Point) → count_of p ≡ c → reading k n text i (ready touching) (in_phase p e phase) ≡ stops j
 
-abbrev pub ClauseCases : Phase → Bool → ℕ → ℕ → ℕ → ℕ → ℕ → ℕ → List ℕ → List ℕ → List ℕ → List ℕ → List ℕ → ClauseRead → Type 0
-ClauseCases phase touching k n side e c i text es es' cs cs' (Read q f) = ClauseTo phase touching k n side e c i text es es' cs cs' q f
-ClauseCases phase touching k n side e c i text es es' cs cs' (Stopped j) = ClauseNone phase touching k n e c i text es es' cs cs' j
-
-pub record ClauseAt (phase : Phase) (touching : Bool) (k n side e c i : ℕ) (text es es' cs cs' : List ℕ) (r : ClauseRead) : Type 0 where
-  pub says : ClauseCases phase touching k n side e c i text es es' cs cs' r
+pub record ClauseAt (k n side e c i : ℕ) (text es es' cs cs' : List ℕ) (r : Result GuardEnd Stopped) : Type 0 where
+  pub says : MatchResult r (λ g. ClauseTo listing false k n side e c i text es es' cs cs' g.at g.expressions) (λ s. ClauseNone listing false k n e c i text es es' cs cs' s.at)
 
 -- these clauses are added
 abbrev pub list_added : Point → ℕ → List Clause → Point
@@ -86,9 +81,5 @@ pub record ListOver (k n side e c i : ℕ) (text es es' cs cs' : List ℕ) (q f 
   pub to : ListTo k n side e c i text es es' cs cs' q f d
   pub no_when : ¬ Stands text q 119
 
-abbrev pub ListCases : ℕ → ℕ → ℕ → ℕ → ℕ → ℕ → List ℕ → List ℕ → List ℕ → List ℕ → List ℕ → ListRead → Type 0
-ListCases k n side e c i text es es' cs cs' (Listed q f d) = ListOver k n side e c i text es es' cs cs' q f d
-ListCases k n side e c i text es es' cs cs' (Unlisted j) = ListNone k n e c i text es es' cs cs' j
-
-pub record ListAt (k n side e c i : ℕ) (text es es' cs cs' : List ℕ) (r : ListRead) : Type 0 where
-  pub says : ListCases k n side e c i text es es' cs cs' r
+pub record ListAt (k n side e c i : ℕ) (text es es' cs cs' : List ℕ) (r : Result ListEnd Stopped) : Type 0 where
+  pub says : MatchResult r (λ l. ListOver k n side e c i text es es' cs cs' l.at l.expressions l.clauses) (λ s. ListNone k n e c i text es es' cs cs' s.at)

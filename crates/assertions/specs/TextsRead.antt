@@ -1,12 +1,12 @@
 -- What reading the lists of a text and the whole of it comes to.
 -- Assumes nothing.
-use Rattle.std.specs.Prelude.{◌≡◌, Bool, List, [], ℕ, ◌*◌, ◌≤◌, length}
+use Rattle.std.specs.Prelude.{◌≡◌, Bool, List, [], ℕ, ◌*◌, ◌≤◌, length, false, Result, MatchResult}
 use Rattle.texts.specs.Putting.{Puts}
-use Rattle.assertions.specs.declared.reading.Whole.{Whole}
-use Rattle.assertions.specs.declared.reading.Whole.TheVariants.{Read, Stopped}
+use Rattle.phrases.specs.declared.items.Stopped.{Stopped}
+use Rattle.assertions.specs.declared.Written.{Written}
 use Rattle.grammar.specs.Grammar.{Clause, Text}
 use Rattle.grammar.specs.Records.{list_expressions, list_clauses, text_expressions, text_clauses}
-use Rattle.grammar.specs.Points.{listing, Point}
+use Rattle.grammar.specs.Points.{listing, Point, start}
 use Rattle.grammar.specs.Bytewise.{ready, reads, stops, reading}
 
 -- before a clause, these having been read; after `expect` or not
@@ -23,44 +23,36 @@ pub record RestAsked (k n e c i : ℕ) (text es cs : List ℕ) : Type 0 where
   pub enough_e : 4032 ≤ length es
   pub enough_c : 4032 ≤ length cs
 
--- whatever c clauses were given, the rest of the text, from i on, are the expected ones
-pub record RestTo (k n : ℕ) (touching second : Bool) (e c i : ℕ) (text es es' cs cs' : List ℕ) (f d : ℕ) : Type 0 where
+-- whatever c clauses were given, the rest of the text, from i on, is `expect` and the expected ones
+pub record RestTo (k n e c i : ℕ) (text es es' cs cs' : List ℕ) (f d : ℕ) : Type 0 where
   pub expect : List Clause
   pub few_e : f ≤ 504
   pub few_c : d ≤ 504
   pub put_e : Puts (list_expressions e expect) (8 * e) es es' (8 * f)
   pub put_c : Puts (list_clauses 1 e expect) (8 * c) cs cs' (8 * d)
-  pub comes : (gs : List Clause) → length gs ≡ c → reading k n text i (ready touching) (listing_at second gs e) ≡ reads (record { given = gs; expect = expect })
+  pub comes : (gs : List Clause) → length gs ≡ c → reading k n text i (ready false) (listing_at false gs e) ≡ reads (record { given = gs; expect = expect })
 
-pub record RestNone (k n : ℕ) (touching second : Bool) (e c i : ℕ) (text es es' cs cs' : List ℕ) (j : ℕ) : Type 0 where
+pub record RestNone (k n e c i : ℕ) (text es es' cs cs' : List ℕ) (j : ℕ) : Type 0 where
   pub size_e : length es' ≡ length es
   pub size_c : length cs' ≡ length cs
-  pub comes : (gs : List Clause) → length gs ≡ c → reading k n text i (ready touching) (listing_at second gs e) ≡ stops j
+  pub comes : (gs : List Clause) → length gs ≡ c → reading k n text i (ready false) (listing_at false gs e) ≡ stops j
 
-abbrev pub RestCases : ℕ → ℕ → Bool → Bool → ℕ → ℕ → ℕ → List ℕ → List ℕ → List ℕ → List ℕ → List ℕ → Whole → Type 0
-RestCases k n touching second e c i text es es' cs cs' (Read f d) = RestTo k n touching second e c i text es es' cs cs' f d
-RestCases k n touching second e c i text es es' cs cs' (Stopped j) = RestNone k n touching second e c i text es es' cs cs' j
+pub record RestAt (k n e c i : ℕ) (text es es' cs cs' : List ℕ) (r : Result Written Stopped) : Type 0 where
+  pub says : MatchResult r (λ w. RestTo k n e c i text es es' cs cs' w.expressions w.clauses) (λ s. RestNone k n e c i text es es' cs cs' s.at)
 
-pub record RestAt (k n : ℕ) (touching second : Bool) (e c i : ℕ) (text es es' cs cs' : List ℕ) (r : Whole) : Type 0 where
-  pub says : RestCases k n touching second e c i text es es' cs cs' r
-
--- the text from i on, read from this point, is t, and its records are put
-pub record TextTo (k n : ℕ) (touching : Bool) (p : Point) (i : ℕ) (text es es' cs cs' : List ℕ) (f d : ℕ) : Type 0 where
+-- the text is t, and its records are put
+pub record TextTo (k n : ℕ) (text es es' cs cs' : List ℕ) (f d : ℕ) : Type 0 where
   pub t : Text
   pub few_e : f ≤ 504
   pub few_c : d ≤ 504
   pub put_e : Puts (text_expressions t) 0 es es' (8 * f)
   pub put_c : Puts (text_clauses t) 0 cs cs' (8 * d)
-  pub comes : reading k n text i (ready touching) p ≡ reads t
+  pub comes : reading k n text 0 (ready false) start ≡ reads t
 
-pub record TextNone (k n : ℕ) (touching : Bool) (p : Point) (i : ℕ) (text es es' cs cs' : List ℕ) (j : ℕ) : Type 0 where
+pub record TextNone (k n : ℕ) (text es es' cs cs' : List ℕ) (j : ℕ) : Type 0 where
   pub size_e : length es' ≡ length es
   pub size_c : length cs' ≡ length cs
-  pub comes : reading k n text i (ready touching) p ≡ stops j
+  pub comes : reading k n text 0 (ready false) start ≡ stops j
 
-abbrev pub TextCases : ℕ → ℕ → Bool → Point → ℕ → List ℕ → List ℕ → List ℕ → List ℕ → List ℕ → Whole → Type 0
-TextCases k n touching p i text es es' cs cs' (Read f d) = TextTo k n touching p i text es es' cs cs' f d
-TextCases k n touching p i text es es' cs cs' (Stopped j) = TextNone k n touching p i text es es' cs cs' j
-
-pub record TextAt (k n : ℕ) (touching : Bool) (p : Point) (i : ℕ) (text es es' cs cs' : List ℕ) (r : Whole) : Type 0 where
-  pub says : TextCases k n touching p i text es es' cs cs' r
+pub record TextAt (k n : ℕ) (text es es' cs cs' : List ℕ) (r : Result Written Stopped) : Type 0 where
+  pub says : MatchResult r (λ w. TextTo k n text es es' cs cs' w.expressions w.clauses) (λ s. TextNone k n text es es' cs cs' s.at)

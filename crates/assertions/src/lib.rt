@@ -8,76 +8,95 @@ mod reading;
 ghost use Rattle.std.specs.Prelude.{◌≡◌, ◌&&◌, ◌*◌, ◌≤◌, leb};
 ghost use Rattle.grammar.specs.Grammar.{limits};
 ghost use Rattle.assertions.specs.Answering.{Answered};
+ghost use Rattle.assertions.specs.Refusals.{number_of, byte_of};
+ghost use Rattle.assertions.specs.declared.TextRefusal.TheVariants.{Text};
 
-use crate::reading::{Whole, whole_text};
+use crate::reading::whole_text;
 use blocks::layout::limits_ok;
+use phrases::items::Stopped;
 use stored::Size;
 use texts::put_text;
 
-// The counts of expressions and clauses written; or number and byte.
-#[derive(Clone, Copy)]
-pub enum TextRead {
-    Written { expressions: usize, clauses: usize },
-    Refused { number: usize, byte: usize },
+// The counts of expressions and clauses.
+#[derive(Clone, Copy, Debug, PartialEq, Eq)]
+pub struct Written {
+    pub expressions: usize,
+    pub clauses: usize,
+}
+
+// Why a text is not read: k or n, the text with the byte where it stops, or a list too short.
+#[derive(Clone, Copy, Debug, PartialEq, Eq)]
+pub enum TextRefusal {
+    Header,
+    Text(usize),
+    Room,
+}
+
+impl TextRefusal {
+    pub fn number(self) -> usize
+        ensures { result ≡ number_of self }
+    {
+        match self {
+            TextRefusal::Header => 4,
+            TextRefusal::Text(_) => 15,
+            TextRefusal::Room => 13,
+        }
+    }
+
+    // The byte where the text stops; 0 where it is not the text.
+    pub fn byte(self) -> usize
+        ensures { result ≡ byte_of self }
+    {
+        match self {
+            TextRefusal::Text(byte) => byte,
+            TextRefusal::Header | TextRefusal::Room => 0,
+        }
+    }
+}
+
+impl From<Stopped> for TextRefusal {
+    ghost from_gives = { λ s r. r ≡ Text s.at };
+
+    fn from(stopped: Stopped) -> TextRefusal {
+        TextRefusal::Text(stopped.at)
+    }
 }
 
 // k and n are within the limits of a job.
 fn in_limits(k: usize, n: usize) -> bool
     ensures { result ≡ limits k n }
 {
-    limits_ok(Size {
-        k: k,
-        n: n,
-        e: 0,
-        c: 0,
-    })
+    limits_ok(Size { k, n, e: 0, c: 0 })
 }
 
 // Both lists have room for so many records.
-fn has_room(e: usize, c: usize, expressions: usize, clauses: usize) -> bool
-    requires { (e ≤ 504) × (c ≤ 504) }
-    ensures { result ≡ leb (8 * e) expressions && leb (8 * c) clauses }
+fn has_room(written: Written, expressions: usize, clauses: usize) -> bool
+    requires { (written.expressions ≤ 504) × (written.clauses ≤ 504) }
+    ensures { result ≡ leb (8 * written.expressions) expressions && leb (8 * written.clauses) clauses }
 {
-    if 8 * e > expressions {
-        return false;
-    }
-    8 * c <= clauses
+    8 * written.expressions <= expressions && 8 * written.clauses <= clauses
 }
 
-// A text of `given` and `expect` for k variables and n nodes. 4 for k or n, 15 for the text with the byte where it
-// stops, 13 for a list too short.
+// A text of `given` and `expect` for k variables and n nodes.
 pub fn read_text(
     k: usize,
     n: usize,
     text: &[u8],
     expressions: &mut [u8],
     clauses: &mut [u8],
-) -> TextRead
+) -> Result<Written, TextRefusal>
     ensures { Answered k n text.now expressions.old clauses.old expressions.new clauses.new result }
 {
     if !in_limits(k, n) {
-        return TextRead::Refused { number: 4, byte: 0 };
+        return Err(TextRefusal::Header);
     }
     let mut es = [0u8; 4032];
     let mut cs = [0u8; 4032];
-    match whole_text(text, k, n, &mut es, &mut cs) {
-        Whole::Stopped(j) => TextRead::Refused {
-            number: 15,
-            byte: j,
-        },
-        Whole::Read { e, c } => {
-            if !has_room(e, c, expressions.len(), clauses.len()) {
-                return TextRead::Refused {
-                    number: 13,
-                    byte: 0,
-                };
-            }
-            put_text(&es[..8 * e], expressions, 0);
-            put_text(&cs[..8 * c], clauses, 0);
-            TextRead::Written {
-                expressions: e,
-                clauses: c,
-            }
-        }
+    let written = whole_text(text, k, n, &mut es, &mut cs)?;
+    if !has_room(written, expressions.len(), clauses.len()) {
+        return Err(TextRefusal::Room);
     }
+    put_text(&es[..8 * written.expressions], expressions, 0);
+    put_text(&cs[..8 * written.clauses], clauses, 0);
+    Ok(written)
 }

@@ -1,28 +1,40 @@
 // Clauses one after the other.
-ghost use Rattle.std.specs.Prelude.{◌≡◌, Bool, true, false, not, ◌&&◌, ◌||◌, [], ◌∷◌, ◌+◌, ◌*◌, ◌≤◌, ◌<◌, leb, eqb, length};
+ghost use Rattle.std.specs.Prelude.{◌≡◌, not, ◌&&◌, ◌||◌, ◌+◌, ◌*◌, ◌≤◌, ◌<◌, leb, eqb, length};
 ghost use Rattle.texts.specs.Putting.{Puts};
 ghost use Rattle.grammar.specs.Records.{clause_bytes};
-ghost use Rattle.grammar.specs.Points.{listing, guarding};
 ghost use Rattle.phrases.specs.Places.{is_at, Stands};
+ghost use Rattle.assertions.specs.Sides.{side_of};
 ghost use Rattle.assertions.specs.ListsRead.{ClauseAsked, ClauseAt, ListAt};
 
 use crate::clauses::{Told, said};
-use phrases::guards::{GuardRead, either};
-use phrases::items::{Step, is_at, skip, spell};
+use phrases::guards::{GuardEnd, guard};
+use phrases::items::{Stopped, is_at, skip, spell};
 use texts::put_text;
 
-// The place after the clause and the count of expressions then; or the place where the text stops.
-#[derive(Clone, Copy)]
-pub enum ClauseRead {
-    Read { at: usize, e: usize },
-    Stopped(usize),
+// The two lists of a text.
+#[derive(Clone, Copy, Debug, PartialEq, Eq)]
+pub enum Side {
+    Given,
+    Expect,
 }
 
-// The place after the clauses, and both counts; or the place where the text stops.
-#[derive(Clone, Copy)]
-pub enum ListRead {
-    Listed { at: usize, e: usize, c: usize },
-    Unlisted(usize),
+impl Side {
+    fn number(self) -> u8
+        ensures { result ≡ side_of self }
+    {
+        match self {
+            Side::Given => 0,
+            Side::Expect => 1,
+        }
+    }
+}
+
+// The place after the clauses, and both counts then.
+#[derive(Clone, Copy, Debug, PartialEq, Eq)]
+pub struct ListEnd {
+    pub at: usize,
+    pub expressions: usize,
+    pub clauses: usize,
 }
 
 const CLAUSES: usize = 504;
@@ -30,25 +42,17 @@ const CLAUSES: usize = 504;
 const EXPRESSIONS: usize = 504;
 
 // Clause c: its eight bytes.
-fn put_clause(
-    cs: &mut [u8],
-    c: usize,
-    side: u8,
-    value: usize,
-    node: usize,
-    time: usize,
-    guard: usize,
-)
-    requires { (8 * c + 8 ≤ length cs.old) × (value < 2) }
-    ensures { Puts (clause_bytes side value node time guard) (8 * c) cs.old cs.new (8 * c + 8) }
+fn put_clause(cs: &mut [u8], c: usize, side: Side, told: Told, guard: usize)
+    requires { (8 * c + 8 ≤ length cs.old) × (told.value < 2) }
+    ensures { Puts (clause_bytes (side_of side) told.value told.node told.time guard) (8 * c) cs.old cs.new (8 * c + 8) }
 {
     let record = [
-        side,
-        value as u8,
-        (node % 256) as u8,
-        (node / 256 % 256) as u8,
-        (time % 256) as u8,
-        (time / 256 % 256) as u8,
+        side.number(),
+        told.value as u8,
+        (told.node % 256) as u8,
+        (told.node / 256 % 256) as u8,
+        (told.time % 256) as u8,
+        (told.time / 256 % 256) as u8,
         (guard % 256) as u8,
         (guard / 256 % 256) as u8,
     ];
@@ -59,54 +63,7 @@ fn put_clause(
 fn touches(text: &[u8], at: usize, q: usize) -> bool
     ensures { result ≡ eqb q at && (not (is_at text.now q 33) && not (is_at text.now q 40)) }
 {
-    if q != at {
-        return false;
-    }
-    if is_at(text, q, b'!') {
-        return false;
-    }
-    !is_at(text, q, b'(')
-}
-
-// The rest of a clause after `when`.
-fn guarded(
-    text: &[u8],
-    at: usize,
-    k: usize,
-    n: usize,
-    side: u8,
-    e: usize,
-    c: usize,
-    es: &mut [u8],
-    cs: &mut [u8],
-) -> ClauseRead
-    requires { ClauseAsked k n e c at text.now es.old cs.old }
-    ensures { ClauseAt (guarding []) true k n side e c at text.now es.old es.new cs.old cs.new result }
-{
-    let from = skip(text, at);
-    if touches(text, at, from) {
-        return ClauseRead::Stopped(from);
-    }
-    match either(text, from, k, 0, e, 0, es) {
-        GuardRead::Stopped(j) => ClauseRead::Stopped(j),
-        GuardRead::Read { at: q, e: f } => {
-            if !is_at(text, q, b':') {
-                return ClauseRead::Stopped(q);
-            }
-            match said(text, q + 1, n) {
-                Told::Untold(j) => ClauseRead::Stopped(j),
-                Told::Said {
-                    node,
-                    value,
-                    time,
-                    at: end,
-                } => {
-                    put_clause(cs, c, side, value, node, time, f - 1);
-                    ClauseRead::Read { at: end, e: f }
-                }
-            }
-        }
-    }
+    q == at && !is_at(text, q, b'!') && !is_at(text, q, b'(')
 }
 
 // `when GUARD : NODE is VALUE at TIME ;`, its first letter known to stand.
@@ -115,29 +72,37 @@ fn clause(
     at: usize,
     k: usize,
     n: usize,
-    side: u8,
+    side: Side,
     e: usize,
     c: usize,
     es: &mut [u8],
     cs: &mut [u8],
-) -> ClauseRead
+) -> Result<GuardEnd, Stopped>
     requires { ClauseAsked k n e c at text.now es.old cs.old × Stands text.now at 119 }
-    ensures { ClauseAt listing false k n side e c at text.now es.old es.new cs.old cs.new result }
+    ensures { ClauseAt k n (side_of side) e c at text.now es.old es.new cs.old cs.new result }
 {
-    match spell(text, at, b"when") {
-        Step::Stuck(j) => ClauseRead::Stopped(j),
-        Step::To(q) => guarded(text, q, k, n, side, e, c, es, cs),
+    let end = spell(text, at, b"when")?;
+    let from = skip(text, end);
+    if touches(text, end, from) {
+        return Err(Stopped { at: from });
     }
+    let guard = guard(text, from, k, e, es)?;
+    if !is_at(text, guard.at, b':') {
+        return Err(Stopped { at: guard.at });
+    }
+    let told = said(text, guard.at + 1, n)?;
+    put_clause(cs, c, side, told, guard.expressions - 1);
+    Ok(GuardEnd {
+        at: told.at,
+        expressions: guard.expressions,
+    })
 }
 
 // No room for another clause, or for its guard.
 fn full(e: usize, c: usize) -> bool
     ensures { result ≡ leb 504 e || leb 504 c }
 {
-    if e >= EXPRESSIONS {
-        return true;
-    }
-    c >= CLAUSES
+    e >= EXPRESSIONS || c >= CLAUSES
 }
 
 // Clauses as long as another begins.
@@ -146,30 +111,40 @@ pub fn list(
     at: usize,
     k: usize,
     n: usize,
-    side: u8,
+    side: Side,
     e: usize,
     c: usize,
     es: &mut [u8],
     cs: &mut [u8],
-) -> ListRead
+) -> Result<ListEnd, Stopped>
     requires { (at ≤ length text.now) × (k ≤ 12) × (n ≤ 65536) × (e ≤ 504) × (c ≤ 504) × (4032 ≤ length es.old) × (4032 ≤ length cs.old) }
-    ensures { ListAt k n side e c at text.now es.old es.new cs.old cs.new result }
+    ensures { ListAt k n (side_of side) e c at text.now es.old es.new cs.old cs.new result }
 {
-    let mut q = skip(text, at);
-    let mut f = e;
-    let mut d = c;
-    while is_at(text, q, b'w') {
-        if full(f, d) {
-            return ListRead::Unlisted(q);
+    let mut end = ListEnd {
+        at: skip(text, at),
+        expressions: e,
+        clauses: c,
+    };
+    while is_at(text, end.at, b'w') {
+        if full(end.expressions, end.clauses) {
+            return Err(Stopped { at: end.at });
         }
-        match clause(text, q, k, n, side, f, d, es, cs) {
-            ClauseRead::Stopped(j) => return ListRead::Unlisted(j),
-            ClauseRead::Read { at: end, e: upto } => {
-                q = skip(text, end);
-                f = upto;
-                d += 1;
-            }
-        }
+        let next = clause(
+            text,
+            end.at,
+            k,
+            n,
+            side,
+            end.expressions,
+            end.clauses,
+            es,
+            cs,
+        )?;
+        end = ListEnd {
+            at: skip(text, next.at),
+            expressions: next.expressions,
+            clauses: end.clauses + 1,
+        };
     }
-    ListRead::Listed { at: q, e: f, c: d }
+    Ok(end)
 }

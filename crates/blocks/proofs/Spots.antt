@@ -1,18 +1,19 @@
 -- A record looked at where it stands, in the blocks or in a list by itself, keeps its rule exactly if the record taken out does.
 -- Assumes nothing.
-use Rattle.std.specs.Prelude.{Result}
-use Rattle.stored.specs.declared.Refusal.{Refusal}
-use Rattle.std.proofs.Common.{◌≡◌, ℕ, ◌+◌, ◌*◌, ◌/◌, ◌%◌, ◌<◌, ◌≤◌, List, [], ◌∷◌, sym, refl, ap, ◌∙◌, arith, le-ltb}
+use Rattle.std.specs.Prelude.{Result, Option, None, Some}
+use Rattle.std.proofs.Common.{◌≡◌, ℕ, ◌+◌, ◌*◌, ◌/◌, ◌%◌, ◌<◌, List, [], ◌∷◌, sym, refl, ap, ◌∙◌, arith}
 use Rattle.scans.specs.Refusals.{Stage, in_order}
 use Rattle.scans.proofs.Exactly.{in_order_same}
 use Rattle.meaning.specs.Stated.{Stated}
+use Rattle.stored.specs.declared.Refusal.{Refusal}
 use Rattle.stored.specs.declared.Size.{Size}
 use Rattle.scans.specs.Lists.{list_of}
 use Rattle.stored.specs.Bytes.{byte_at, u16_at}
 use Rattle.stored.specs.Layout.{Records, sizes_of, first_expressions, first_clauses, header_sizes, record_byte, records_of}
 use Rattle.stored.specs.Rules.{operand_ok, node_ok, first_ok, second_ok, expression_ok, clause_ok}
-use Rattle.stored.specs.Reading.{per_record, record_stages, refused, accepted_as}
-use Rattle.blocks.specs.Steps.{spot, record_ok, spotted_stages, followed, Follows}
+use Rattle.stored.specs.Reading.{per_record, record_stages, refused}
+use Rattle.stored.specs.Checked.{followed}
+use Rattle.blocks.specs.Steps.{spot, spotted_stages, Follows}
 use Rattle.scans.proofs.Lists.{list_of_at}
 use Rattle.stored.proofs.Accepted.{read_sizes}
 
@@ -27,79 +28,72 @@ module _ (s t : List ℕ) (a b : ℕ) (same : (f : ℕ) → f < 8 → byte_at s 
   code : byte_at s a ≡ byte_at t b
   code = byte_same a b 0 (omega arith) (omega arith) (omega arith)
 
-  pub record_same : (number : ℕ) (z : Size) (i : ℕ) → record_ok number z s i a ≡ record_ok number z t i b
-  unfolding record_ok node_ok operand_ok expression_ok first_ok second_ok clause_ok
-  record_same number z i =
-      rw (
-        u16_same (a + 2 + 0) (b + 2 + 0) 2 (omega arith) (omega arith) (omega arith),
-        u16_same (a + 2 + 2) (b + 2 + 2) 4 (omega arith) (omega arith) (omega arith),
-        u16_same (a + 2 + 4) (b + 2 + 4) 6 (omega arith) (omega arith) (omega arith),
-        u16_same (a + 2) (b + 2) 2 (omega arith) (omega arith) (omega arith),
-        u16_same (a + 4) (b + 4) 4 (omega arith) (omega arith) (omega arith),
-        u16_same (a + 6) (b + 6) 6 (omega arith) (omega arith) (omega arith),
-        byte_same (a + 1) (b + 1) 1 (omega arith) (omega arith) (omega arith),
-        code,
-      )
+  flag : byte_at s (a + 1) ≡ byte_at t (b + 1)
+  flag = byte_same (a + 1) (b + 1) 1 (omega arith) (omega arith) (omega arith)
+
+  half : (f : ℕ) → f < 7 → u16_at s (a + f) ≡ u16_at t (b + f)
+  half f h = u16_same (a + f) (b + f) f refl refl (omega arith)
+
+  operand_same : (n i : ℕ) → i < 3 → operand_ok n s a i ≡ operand_ok n t b i
+  unfolding operand_ok
+  operand_same n i h = rw (u16_same (a + 2 + 2 * i) (b + 2 + 2 * i) (2 + 2 * i) (omega arith) (omega arith) (omega arith), code)
+
+  pub node_same : (n : ℕ) → node_ok n s a ≡ node_ok n t b
+  unfolding node_ok
+  node_same n = rw (operand_same n 0 (omega arith), operand_same n 1 (omega arith), operand_same n 2 (omega arith), flag, code)
+
+  pub expression_same : (k i : ℕ) → expression_ok k i s a ≡ expression_ok k i t b
+  unfolding expression_ok first_ok second_ok
+  expression_same k i = rw (half 2 (omega arith), half 4 (omega arith), half 6 (omega arith), flag, code)
+
+  pub clause_same : (n e : ℕ) → clause_ok n e s a ≡ clause_ok n e t b
+  unfolding clause_ok
+  clause_same n e = rw (half 2 (omega arith), half 4 (omega arith), half 6 (omega arith), flag, code)
 
 -- a record in the blocks, and the same in the list taken out of them
-in_blocks : (s : List ℕ) (first m i : ℕ) → 1 ≤ first → i < m → (f : ℕ) → f < 8 → byte_at s (spot first i + f) ≡ byte_at (list_of (record_byte s first) (8 * m)) (8 * i + f)
-unfolding spot record_byte
-in_blocks s first m i h l f g =
+pub in_blocks : (s : List ℕ) (first m i : ℕ) → i < m → (f : ℕ) → f < 8 → byte_at s (spot (Some first) i + f) ≡ byte_at (list_of (record_byte s first) (8 * m)) (8 * i + f)
+unfolding record_byte
+in_blocks s first m i l f g =
     let b : (8 * i + f) / 504 ≡ i / 63 = omega arith in
     let o : (8 * i + f) % 504 ≡ 8 * (i % 63) + f = omega arith in
     let e : 512 * (first + i / 63) + 4 + (8 * (i % 63) + f) ≡ 512 * (first + i / 63) + 4 + 8 * (i % 63) + f = omega arith in
-    rw (le-ltb first 1 h, list_of_at (record_byte s first) (8 * m) (8 * i + f) (omega arith), b, o, e)
-
--- a list by itself has its records in a row
-in_list : (s : List ℕ) (i f : ℕ) → byte_at s (spot 0 i + f) ≡ byte_at s (8 * i + f)
-unfolding spot
-in_list s i f = refl
+    rw (list_of_at (record_byte s first) (8 * m) (8 * i + f) (omega arith), b, o, e)
 
 -- the three stages, of records in these lists
-abbrev stages_at : Size → Records → List Stage
-stages_at z r =
-    per_record 8 1 z.n (λ i. record_ok 8 z r.nodes i (8 * i))
-    ∷ per_record 9 (first_expressions z) z.e (λ i. record_ok 9 z r.expressions i (8 * i))
-    ∷ per_record 10 (first_clauses z) z.c (λ i. record_ok 10 z r.clauses i (8 * i))
+abbrev stages_at : Records → Size → List Stage
+stages_at r z =
+    per_record 8 1 z.n (λ i. node_ok z.n r.nodes (8 * i))
+    ∷ per_record 9 (first_expressions z) z.e (λ i. expression_ok z.k i r.expressions (8 * i))
+    ∷ per_record 10 (first_clauses z) z.c (λ i. clause_ok z.n z.e r.clauses (8 * i))
     ∷ []
 
-stages_are : (r : Records) → record_stages r ≡ stages_at (sizes_of r) r
-unfolding record_ok
-stages_are r = refl
-
-module _ (z : Size) (r : Records) (nodes : List ℕ) (n1 : ℕ) (expressions : List ℕ) (e1 : ℕ) (clauses : List ℕ) (c1 : ℕ) where
-  spotted : ((i f : ℕ) → i < z.n → f < 8 → byte_at nodes (spot n1 i + f) ≡ byte_at r.nodes (8 * i + f))
+module _ (r : Records) (z : Size) (nodes : List ℕ) (n1 : Option ℕ) (expressions : List ℕ) (e1 : Option ℕ) (clauses : List ℕ) (c1 : Option ℕ) where
+  spotted : sizes_of r ≡ z
+      → ((i f : ℕ) → i < z.n → f < 8 → byte_at nodes (spot n1 i + f) ≡ byte_at r.nodes (8 * i + f))
       → ((i f : ℕ) → i < z.e → f < 8 → byte_at expressions (spot e1 i + f) ≡ byte_at r.expressions (8 * i + f))
       → ((i f : ℕ) → i < z.c → f < 8 → byte_at clauses (spot c1 i + f) ≡ byte_at r.clauses (8 * i + f))
-      → (next : Stated) → in_order refused (spotted_stages z nodes n1 expressions e1 clauses c1) next ≡ in_order refused (stages_at z r) next
-  unfolding spotted_stages
-  spotted f g h next =
-      in_order_same refused _ _ next (λ i. record_ok 8 z r.nodes i (8 * i)) _ (λ i l. record_same nodes r.nodes (spot n1 i) (8 * i) (λ o. f i o l) 8 z i)
-      (in_order_same refused _ _ next (λ i. record_ok 9 z r.expressions i (8 * i)) _ (λ i l. record_same expressions r.expressions (spot e1 i) (8 * i) (λ o. g i o l) 9 z i)
-      (in_order_same refused _ _ next (λ i. record_ok 10 z r.clauses i (8 * i)) _ (λ i l. record_same clauses r.clauses (spot c1 i) (8 * i) (λ o. h i o l) 10 z i) refl))
+      → (next : Stated) → in_order refused (spotted_stages z nodes n1 expressions e1 clauses c1) next ≡ in_order refused (record_stages r) next
+  spotted sizes f g h next =
+      in_order_same refused _ _ next (λ i. node_ok z.n r.nodes (8 * i)) _ (λ i l. node_same nodes r.nodes (spot n1 i) (8 * i) (λ o. f i o l) z.n)
+      (in_order_same refused _ _ next (λ i. expression_ok z.k i r.expressions (8 * i)) _ (λ i l. expression_same expressions r.expressions (spot e1 i) (8 * i) (λ o. g i o l) z.k i)
+      (in_order_same refused _ _ next (λ i. clause_ok z.n z.e r.clauses (8 * i)) _ (λ i l. clause_same clauses r.clauses (spot c1 i) (8 * i) (λ o. h i o l) z.n z.e) refl))
+      ∙ ap (λ y. in_order refused (stages_at r y) next) (sym sizes)
 
 -- in a stored job
-pub spotted_read : (s : List ℕ) (next : Stated)
-    → in_order refused (spotted_stages (header_sizes s) s 1 s (first_expressions (header_sizes s)) s (first_clauses (header_sizes s))) next ≡ in_order refused (record_stages (records_of s)) next
+pub rules_read : {res : Result Unit Refusal} (s : List ℕ) (z : Size) {e1 c1 : ℕ} → z ≡ header_sizes s → e1 ≡ first_expressions z → c1 ≡ first_clauses z
+    → Follows z s (Some 1) s (Some e1) s (Some c1) res → (next : Stated) → followed res next ≡ in_order refused (record_stages (records_of s)) next
 unfolding records_of
-spotted_read s next =
-    let z = header_sizes s in
-    spotted z (records_of s) s 1 s (first_expressions z) s (first_clauses z)
-    (λ i f l. in_blocks s 1 z.n i (omega arith) l f) (λ i f l. in_blocks s (first_expressions z) z.e i (omega arith) l f) (λ i f l. in_blocks s (first_clauses z) z.c i (omega arith) l f) next
-    ∙ ap (λ st. in_order refused st next) (ap (λ y. stages_at y (records_of s)) (sym (read_sizes s)) ∙ sym (stages_are (records_of s)))
+rules_read s z {e1} {c1} p q t follows next =
+    follows.is next
+    ∙ ap (λ e. in_order refused (spotted_stages z s (Some 1) s (Some e) s (Some c1)) next) q
+    ∙ ap (λ c. in_order refused (spotted_stages z s (Some 1) s (Some (first_expressions z)) s (Some c)) next) t
+    ∙ ap (λ y. in_order refused (spotted_stages y s (Some 1) s (Some (first_expressions y)) s (Some (first_clauses y))) next) p
+    ∙ (let y = header_sizes s in
+    spotted (records_of s) y s (Some 1) s (Some (first_expressions y)) s (Some (first_clauses y)) (read_sizes s)
+    (λ i f l. in_blocks s 1 y.n i l f) (λ i f l. in_blocks s (first_expressions y) y.e i l f) (λ i f l. in_blocks s (first_clauses y) y.c i l f) next)
 
 -- in record lists
-pub spotted_listed : (r : Records) (next : Stated) → in_order refused (spotted_stages (sizes_of r) r.nodes 0 r.expressions 0 r.clauses 0) next ≡ in_order refused (record_stages r) next
-spotted_listed r next =
-    spotted (sizes_of r) r r.nodes 0 r.expressions 0 r.clauses 0 (λ i f l h. in_list r.nodes i f) (λ i f l h. in_list r.expressions i f) (λ i f l h. in_list r.clauses i f) next
-    ∙ ap (λ st. in_order refused st next) (sym (stages_are r))
-
--- what reading answers once the rules have been looked at
-pub rules_answer : {res : Result Unit Refusal} (s : List ℕ) (z : Size) (e1 c1 : ℕ) → z ≡ header_sizes s → e1 ≡ first_expressions z → c1 ≡ first_clauses z → Follows z s 1 s e1 s c1 res
-    → followed res (accepted_as z) ≡ in_order refused (record_stages (records_of s)) (accepted_as (header_sizes s))
-rules_answer s z e1 c1 p q r f =
-    f.is (accepted_as z)
-    ∙ ap (λ e. in_order refused (spotted_stages z s 1 s e s c1) (accepted_as z)) q
-    ∙ ap (λ c. in_order refused (spotted_stages z s 1 s (first_expressions z) s c) (accepted_as z)) r
-    ∙ ap (λ y. in_order refused (spotted_stages y s 1 s (first_expressions y) s (first_clauses y)) (accepted_as y)) p
-    ∙ spotted_read s (accepted_as (header_sizes s))
+pub rules_listed : {res : Result Unit Refusal} (r : Records) → Follows (sizes_of r) r.nodes None r.expressions None r.clauses None res
+    → (next : Stated) → followed res next ≡ in_order refused (record_stages r) next
+rules_listed r follows next =
+    follows.is next ∙ spotted r (sizes_of r) r.nodes None r.expressions None r.clauses None refl (λ i f l h. refl) (λ i f l h. refl) (λ i f l h. refl) next

@@ -1,136 +1,123 @@
 // Where a job's blocks begin, and what each block has to be.
-ghost use Rattle.std.specs.Prelude.{◌≡◌, ◌+◌, ◌*◌, ◌^◌, ◌<◌, ◌≤◌};
-ghost use Rattle.stored.specs.Layout.{span, first_expressions, first_clauses, blocks_of, kind_of, used_from, used_of};
+ghost use Rattle.std.specs.Prelude.{◌≡◌, ◌+◌, ◌<◌, ◌≤◌};
+ghost use Rattle.stored.specs.Layout.{span, first_expressions, first_clauses, blocks_of, kind_of, used_from, used_of, header_sizes};
 ghost use Rattle.stored.specs.Rules.{limits_ok};
-ghost use Rattle.blocks.specs.Steps.{Narrow, Headed, spot};
+ghost use Rattle.blocks.specs.Narrow.{Narrow};
 
 use crate::numbers::{byte_at, u16_at};
 use stored::Size;
 
-pub fn header(s: &[u8]) -> Size
-    ensures { Headed s.now result }
-{
-    Size {
-        k: usize::from(byte_at(s, 5)),
-        n: usize::from(u16_at(s, 6)),
-        e: usize::from(u16_at(s, 8)),
-        c: usize::from(u16_at(s, 10)),
+// The kinds of blocks; their numbers stand in the blocks.
+#[derive(Clone, Copy, PartialEq, Eq)]
+pub enum Kind {
+    Header = 1,
+    Nodes,
+    Expressions,
+    Clauses,
+}
+
+impl Kind {
+    ghost use Rattle.blocks.specs.Kinds.{number_of};
+
+    pub fn number(self) -> u8
+        ensures { result ≡ number_of self }
+    {
+        self as u8
     }
 }
 
+// Sizes as 16 bits can say them, and the layout that they give.
+#[derive(Clone, Copy)]
+pub struct Layout {
+    pub size: Size,
+    pub ghost narrow: { Narrow size },
+}
+
+impl Layout {
+    ghost use Rattle.blocks.specs.Kinds.{number_of, Standing};
+
+    // What a job's header says.
+    #[tactic(auto, unfolding(stored::specs::Layout::header_sizes))]
+    pub fn of_header(s: &[u8]) -> Layout
+        ensures { result.size ≡ header_sizes s.now }
+    {
+        Layout {
+            size: Size {
+                k: usize::from(byte_at(s, 5)),
+                n: usize::from(u16_at(s, 6)),
+                e: usize::from(u16_at(s, 8)),
+                c: usize::from(u16_at(s, 10)),
+            },
+        }
+    }
+
+    pub fn first_expressions(self) -> usize
+        ensures { (result ≡ first_expressions self.size) × (result < 2000) }
+    {
+        1 + span(self.size.n)
+    }
+
+    pub fn first_clauses(self) -> usize
+        ensures { (result ≡ first_clauses self.size) × (result < 4000) }
+    {
+        self.first_expressions() + span(self.size.e)
+    }
+
+    pub fn block_count(self) -> usize
+        ensures { (result ≡ blocks_of self.size) × (result < 6000) }
+    {
+        self.first_clauses() + span(self.size.c)
+    }
+
+    #[tactic(auto, unfolding(stored::specs::Layout::kind_of))]
+    pub fn block_kind(self, b: usize) -> Kind
+        ensures number { number_of result ≡ kind_of self.size b }
+        ensures standing { Standing self.size b result }
+    {
+        if b < 1 {
+            Kind::Header
+        } else if b < self.first_expressions() {
+            Kind::Nodes
+        } else if b < self.first_clauses() {
+            Kind::Expressions
+        } else {
+            Kind::Clauses
+        }
+    }
+
+    #[tactic(auto, unfolding(stored::specs::Layout::used_of))]
+    pub fn block_used(self, b: usize) -> u8
+        requires { b < 65536 }
+        ensures { result ≡ used_of self.size b }
+    {
+        match self.block_kind(b) {
+            Kind::Header => 1,
+            Kind::Nodes => used_from(self.size.n, 1, b),
+            Kind::Expressions => used_from(self.size.e, self.first_expressions(), b),
+            Kind::Clauses => used_from(self.size.c, self.first_clauses(), b),
+        }
+    }
+}
+
+#[tactic(auto, unfolding(stored::specs::Rules::limits_ok))]
 pub fn limits_ok(z: Size) -> bool
     ensures { result ≡ limits_ok z }
 {
-    if z.k > 12 {
-        return false;
-    }
-    if z.n < 1 {
-        return false;
-    }
-    if z.n > 1008 {
-        return false;
-    }
-    if z.e > 504 {
-        return false;
-    }
-    z.c <= 504
+    z.k <= 12 && 1 <= z.n && z.n <= 1008 && z.e <= 504 && z.c <= 504
 }
 
-fn blocks_for(m: usize) -> usize
+// The blocks that `m` records take.
+fn span(m: usize) -> usize
     requires { m < 65536 }
     ensures { result ≡ span m }
 {
     (m + 62) / 63
 }
 
-pub fn first_expressions(z: Size) -> usize
-    requires { Narrow z }
-    ensures { (result ≡ first_expressions z) × (result < 2000) }
-{
-    1 + blocks_for(z.n)
-}
-
-pub fn first_clauses(z: Size) -> usize
-    requires { Narrow z }
-    ensures { (result ≡ first_clauses z) × (result < 4000) }
-{
-    first_expressions(z) + blocks_for(z.e)
-}
-
-pub fn block_count(z: Size) -> usize
-    requires { Narrow z }
-    ensures { (result ≡ blocks_of z) × (result < 6000) }
-{
-    first_clauses(z) + blocks_for(z.c)
-}
-
-pub fn block_kind(z: Size, b: usize) -> usize
-    requires { Narrow z }
-    ensures { result ≡ kind_of z b }
-{
-    if b < 1 {
-        return 1;
-    }
-    if b < first_expressions(z) {
-        return 2;
-    }
-    if b < first_clauses(z) {
-        return 3;
-    }
-    4
-}
-
-fn used_from(m: usize, first: usize, b: usize) -> usize
+// How many of `m` records that begin in block `first` stand in block `b`.
+fn used_from(m: usize, first: usize, b: usize) -> u8
     requires { (first ≤ b) × (b < 65536) }
     ensures { result ≡ used_from m first b }
 {
-    let before = 63 * (b - first);
-    if m < before {
-        return 0;
-    }
-    if m - before < 63 {
-        return m - before;
-    }
-    63
-}
-
-fn used_expressions(z: Size, b: usize) -> usize
-    requires { Narrow z × (first_expressions z ≤ b) × (b < 65536) }
-    ensures { result ≡ used_from z.e (first_expressions z) b }
-{
-    used_from(z.e, first_expressions(z), b)
-}
-
-fn used_clauses(z: Size, b: usize) -> usize
-    requires { Narrow z × (first_clauses z ≤ b) × (b < 65536) }
-    ensures { result ≡ used_from z.c (first_clauses z) b }
-{
-    used_from(z.c, first_clauses(z), b)
-}
-
-pub fn block_used(z: Size, b: usize) -> usize
-    requires { Narrow z × (b < 65536) }
-    ensures { result ≡ used_of z b }
-{
-    if b < 1 {
-        return 1;
-    }
-    if b < first_expressions(z) {
-        return used_from(z.n, 1, b);
-    }
-    if b < first_clauses(z) {
-        return used_expressions(z, b);
-    }
-    used_clauses(z, b)
-}
-
-// Where record `i` stands: in the blocks from block `first` on, or, where `first` is 0, in a list of records by itself.
-pub fn record_spot(first: usize, i: usize) -> usize
-    requires { (first < 65536) × (i < 65536) }
-    ensures { (result ≡ spot first i) × (result < 2 ^ 31) }
-{
-    if first < 1 {
-        return 8 * i;
-    }
-    512 * (first + i / 63) + 4 + 8 * (i % 63)
+    m.saturating_sub(63 * (b - first)).min(63) as u8
 }

@@ -24,6 +24,7 @@ fn word_at(s: &[u8], i: usize) -> u32
 }
 
 // The 128 words of a block, added with wrapping.
+#[tactic(auto, using(crate::proofs::Words::adding))]
 pub fn block_sum(s: &[u8], b: usize) -> u32
     requires { b < 65536 }
     ensures { result ≡ word_sum (block_from s.now b) 128 % 2 ^ 32 }

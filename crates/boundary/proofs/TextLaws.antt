@@ -2,18 +2,19 @@
 -- Assumes nothing.
 use borrow.Author.Tests.{not-true, not-false}
 use mathlib.Core.Path.{◌≡◌, refl, sym, ◌∙◌, ap, subst}
-use mathlib.Core.Logic.{inl, inr}
-use mathlib.Core.Bool.{Bool, true, false, not}
+use mathlib.Core.Bool.{Bool, true, false, not, cond}
 use mathlib.Core.List.{List}
 use native.Mathlib.Omega.{arith}
 use Prim.Native.Nat.{ℕ, ◌+◌, ◌*◌, ◌/◌, ◌%◌, ◌<◌}
-use lib.Dec.{leb}
+use lib.Dec.{leb, eqb}
 use lib.ListN.{length, get_or}
 use Rattle.scans.proofs.Bools.{both_ways}
 use Rattle.meaning.specs.Stated.{Word, DONE, REFUSED, PASSES, EMPTY, FAILS, HOLDS, VACANT, Stated}
-use Rattle.assertions.specs.declared.TextRead.{TextRead}
-use Rattle.assertions.specs.declared.TextRead.TheVariants.{Written, Refused}
-use Rattle.assertions.specs.Answering.{Why, AnswerCases, Answered}
+use Rattle.std.specs.Prelude.{Result, Ok, Err}
+use Rattle.assertions.specs.declared.Written.{Written}
+use Rattle.assertions.specs.declared.TextRefusal.{TextRefusal}
+use Rattle.assertions.specs.declared.TextRefusal.TheVariants.{Header, Text, Room}
+use Rattle.assertions.specs.Answering.{Why, Answered}
 use Rattle.grammar.proofs.Counted.{expressions_count, clauses_count}
 use Rattle.assertions.proofs.Determined.{text_determined}
 use Rattle.boundary.specs.Answer.{ten_numbers, answer_bytes}
@@ -28,7 +29,7 @@ module _ {t : Bool} (answer : List ℕ) (e : t ≡ leb 40 (length answer)) where
   pub text_untold : (k n : ℕ) (text expressions clauses : List ℕ) → not t ≡ true → TextTold k n text expressions clauses answer expressions clauses answer 0
   text_untold k n text expressions clauses f = record { tried = λ h. both_ways h (sym e ∙ not-true t f); untried = λ _. (refl, refl, refl, refl) }
 
-  pub text_told : {k n : ℕ} {text expressions clauses expressions' clauses' numbers answer' : List ℕ} {r : TextRead} {result : ℕ} → not t ≡ false
+  pub text_told : {k n : ℕ} {text expressions clauses expressions' clauses' numbers answer' : List ℕ} {r : Result Written TextRefusal} {result : ℕ} → not t ≡ false
       → Answered k n text expressions clauses expressions' clauses' r → numbers ≡ ten_numbers (stated_text r) → NumbersTold numbers answer answer' result
       → TextTold k n text expressions clauses answer expressions' clauses' answer' result
   text_told {r = r} f a ns p = record { tried = λ _. record { read = r; answered = a; told = told refl ns p }; untried = λ h. both_ways (sym e ∙ not-false t f) h }
@@ -53,43 +54,48 @@ module _ (k n : ℕ) (text expressions clauses answer : List ℕ) {es cs a es' c
 
 -- each number fits its four bytes
 module _ (k n : ℕ) (text expressions clauses : List ℕ) (short : length text < 18446744073709551616) where
-  why_fits : (number byte : ℕ) → Why k n text expressions clauses number byte → Fits 2 0 (stated_text (Refused number byte))
+  why_fits : (r : TextRefusal) → Why k n text expressions clauses r → Fits 2 0 (stated_text (Err r))
   unfolding stated_text
-  why_fits number byte (inl x) = record { counted = refl; small = omega (arith, x.0, x.1) }
-  why_fits number byte (inr (inl x)) = record { counted = refl; small = omega (arith, x.0, x.2.within) }
-  why_fits number byte (inr (inr x)) = record { counted = refl; small = omega (arith, x.0, x.1) }
+  why_fits Header x = record { counted = refl; small = omega arith }
+  why_fits (Text byte) x = record { counted = refl; small = omega (arith, x.1.within) }
+  why_fits Room x = record { counted = refl; small = omega arith }
 
-  fits : (es cs : List ℕ) (r : TextRead) → AnswerCases k n text expressions clauses es cs r → Fits 2 0 (stated_text r)
+  fits : (es cs : List ℕ) (r : Result Written TextRefusal) → Answered k n text expressions clauses es cs r → Fits 2 0 (stated_text r)
   unfolding stated_text
-  fits es cs (Written e c) x =
+  fits es cs (Ok w) x =
       record {
         counted = refl;
-        small = omega (arith, x.e_is, x.c_is, expressions_count x.text, clauses_count x.text, x.reads.few_expressions, x.reads.few_clauses);
+        small = omega (arith, x.says.e_is, x.says.c_is, expressions_count x.says.text, clauses_count x.says.text, x.says.reads.few_expressions, x.says.reads.few_clauses);
       }
-  fits es cs (Refused number byte) x = why_fits number byte x.why
+  fits es cs (Err r) x = why_fits r x.says.why
 
-  pub text_fit : {es cs : List ℕ} {r : TextRead} → Answered k n text expressions clauses es cs r → Fits 2 0 (stated_text r)
-  text_fit {es} {cs} {r} x = fits es cs r x.says
+  pub text_fit : {es cs : List ℕ} {r : Result Written TextRefusal} → Answered k n text expressions clauses es cs r → Fits 2 0 (stated_text r)
+  text_fit {es} {cs} {r} = fits es cs r
 
 -- so the bytes that are told determine the answer
-stated_back : Stated → TextRead
+refusal_back : ℕ → ℕ → TextRefusal
+refusal_back number byte = cond (eqb number 4) Header (cond (eqb number 15) (Text byte) Room)
+
+stated_back : Stated → Result Written TextRefusal
 stated_back a = back a.word a.numbers
   where
-    back : Word → List ℕ → TextRead
-    back DONE ns = Written (get_or ns 0 0) (get_or ns 1 0)
-    back REFUSED ns = Refused (get_or ns 0 0) (get_or ns 1 0 + 4294967296 * get_or ns 2 0)
-    back PASSES ns = Written 0 0
-    back EMPTY ns = Written 0 0
-    back FAILS ns = Written 0 0
-    back HOLDS ns = Written 0 0
-    back VACANT ns = Written 0 0
+    back : Word → List ℕ → Result Written TextRefusal
+    back DONE ns = Ok (record { expressions = get_or ns 0 0; clauses = get_or ns 1 0 })
+    back REFUSED ns = Err (refusal_back (get_or ns 0 0) (get_or ns 1 0 + 4294967296 * get_or ns 2 0))
+    back PASSES ns = Err Room
+    back EMPTY ns = Err Room
+    back FAILS ns = Err Room
+    back HOLDS ns = Err Room
+    back VACANT ns = Err Room
 
-back_stated : (r : TextRead) → stated_back (stated_text r) ≡ r
-unfolding stated_back stated_text
-back_stated (Written e c) = refl
-back_stated (Refused number byte) = let whole : byte % 4294967296 + 4294967296 * (byte / 4294967296) ≡ byte = omega arith in ap (Refused number) whole
+back_stated : (r : Result Written TextRefusal) → stated_back (stated_text r) ≡ r
+unfolding stated_back stated_text refusal_back
+back_stated (Ok w) = refl
+back_stated (Err Header) = refl
+back_stated (Err (Text byte)) = let whole : byte % 4294967296 + 4294967296 * (byte / 4294967296) ≡ byte = omega arith in ap (λ b. Err (Text b)) whole
+back_stated (Err Room) = refl
 
-pub text_apart : (k n k' n' : ℕ) (text expressions clauses text' expressions' clauses' : List ℕ) {es cs es' cs' : List ℕ} {r r' : TextRead} → length text < 18446744073709551616 → length text' < 18446744073709551616
+pub text_apart : (k n k' n' : ℕ) (text expressions clauses text' expressions' clauses' : List ℕ) {es cs es' cs' : List ℕ} {r r' : Result Written TextRefusal} → length text < 18446744073709551616 → length text' < 18446744073709551616
     → Answered k n text expressions clauses es cs r → Answered k' n' text' expressions' clauses' es' cs' r' → answer_bytes (stated_text r) ≡ answer_bytes (stated_text r') → r ≡ r'
 text_apart k n k' n' text expressions clauses text' expressions' clauses' {r = r} {r'} l l' x y e =
     sym (back_stated r)

@@ -7,7 +7,7 @@ ghost use Rattle.verdicts.specs.Running.{stated_checked, stated_case_checked, st
 ghost use Rattle.boundary.specs.Answer.{ten_numbers};
 ghost use Rattle.boundary.specs.Texts.{stated_text};
 
-use assertions::TextRead;
+use assertions::{TextRefusal, Written};
 use meaning::{CaseAnswer, Counts, JobAnswer};
 use stored::{Packed, Read, Refusal};
 use verdicts::{CaseChecked, Checked, RowAsked};
@@ -137,19 +137,15 @@ pub fn of_checked(answer: Checked) -> [usize; 10]
     }
 }
 
-pub fn of_text(answer: TextRead) -> [usize; 10]
+pub fn of_text(answer: Result<Written, TextRefusal>) -> [usize; 10]
     ensures { result ≡ ten_numbers (stated_text answer) }
 {
     match answer {
-        TextRead::Written {
-            expressions,
-            clauses,
-        } => [DONE, expressions, clauses, 0, 0, 0, 0, 0, 0, 0],
-        TextRead::Refused { number, byte } => [
-            REFUSED,
-            number,
-            byte % 4294967296,
-            byte / 4294967296,
+        Ok(written) => [
+            DONE,
+            written.expressions,
+            written.clauses,
+            0,
             0,
             0,
             0,
@@ -157,5 +153,20 @@ pub fn of_text(answer: TextRead) -> [usize; 10]
             0,
             0,
         ],
+        Err(refusal) => {
+            let byte = refusal.byte();
+            [
+                REFUSED,
+                refusal.number(),
+                byte % 4294967296,
+                byte / 4294967296,
+                0,
+                0,
+                0,
+                0,
+                0,
+                0,
+            ]
+        }
     }
 }

@@ -2,3 +2,5 @@ pub mod Chains
 pub mod Plans
 pub mod Walks
 pub mod Meant
+pub mod Records
+pub mod RecordLaws

@@ -2,6 +2,7 @@
 #![tactic(auto)]
 
 mod chains;
+mod records;
 mod walk;
 
 ghost use Rattle.std.specs.Prelude.{◌≡◌};
@@ -10,6 +11,7 @@ ghost use Rattle.decoded.specs.Chains.{Chained};
 ghost use Rattle.decoded.specs.Plans.{clause_of, Decoded};
 
 use crate::chains::{chained, last_time};
+pub use crate::records::{Decode, decode_list};
 pub use crate::walk::ClausesAt;
 use meaning::{Clause, Expression, Node};
 use stored::Size;

@@ -1,86 +1,76 @@
-// The lines of tests: where one ends, its group and its numbers.
-ghost use Rattle.std.specs.Prelude.{◌<◌, ◌≤◌, length};
+// The lines of tests: what a line asks, and its numbers.
+use crate::shape::{Kind, Shape};
 
-use crate::bytes::same;
-
-// Where the line that starts at `from` ends: at its newline, or at the last byte.
-pub fn line_end(s: &[u8], from: usize) -> usize
-    requires { from < length s.now }
-    ensures { (from ≤ result) × (result < length s.now) }
-{
-    let last = s.len() - 1;
-    let mut i = from;
-    while i < last {
-        if s[i] == b'\n' {
-            return i;
-        }
-        i += 1;
-    }
-    i
+// What a line asks.
+#[derive(Clone, Copy)]
+pub enum Test {
+    Length,
+    Sized,
+    AllZeroBlock,
+    Flipped,
+    Exchanged,
+    Edited(Shape),
+    EditedTwice(Shape),
+    WrongFrom,
+    Record(Kind),
+    PackVariables,
+    Pack,
+    Repack,
+    Flag,
+    Unpack,
 }
 
-pub fn begins(line: &[u8], name: &[u8]) -> bool {
-    same(line, name, name.len())
-}
+// What a line begins with; of two names that fit, the first counts.
+const NAMES: [(&[u8], Test); 18] = [
+    (b"length ", Test::Length),
+    (b"job ", Test::Sized),
+    (b"all-zero-block ", Test::AllZeroBlock),
+    (b"flipped ", Test::Flipped),
+    (b"exchanged ", Test::Exchanged),
+    (b"full ", Test::Edited(Shape::FULL)),
+    (b"spare ", Test::Edited(Shape::SPARE)),
+    (b"twice full ", Test::EditedTwice(Shape::FULL)),
+    (b"twice spare ", Test::EditedTwice(Shape::SPARE)),
+    (b"wrong-from ", Test::WrongFrom),
+    (b"node ", Test::Record(Kind::Node)),
+    (b"expression ", Test::Record(Kind::Expression)),
+    (b"clause ", Test::Record(Kind::Clause)),
+    (b"pack k ", Test::PackVariables),
+    (b"pack ", Test::Pack),
+    (b"repack ", Test::Repack),
+    (b"flag", Test::Flag),
+    (b"unpack ", Test::Unpack),
+];
 
-// Numbers to 2^64 - 1; from the bound on, ten times `x` would not fit.
-fn with_digit(x: usize, digit: u8) -> usize {
-    if x < 1844674407370955162 {
-        std::num::wrapping_add_usize(10 * x, (digit % 16) as usize)
-    } else {
-        0
+impl Test {
+    pub fn of(line: &[u8]) -> Option<Test> {
+        NAMES
+            .iter()
+            .find(|(name, _)| line.starts_with(name))
+            .map(|(_, test)| *test)
     }
 }
 
-// A digit goes to the last number, and a space makes room for the next.
-fn with_byte(row: [usize; 7], b: u8) -> [usize; 7] {
-    match b {
-        b' ' => [row[1], row[2], row[3], row[4], row[5], row[6], 0],
-        b'0'..=b'9' => [
-            row[0],
-            row[1],
-            row[2],
-            row[3],
-            row[4],
-            row[5],
-            with_digit(row[6], b),
-        ],
-        _ => row,
+// The last numbers of a line by their low sixteen bits, with zeros before them where the line has fewer.
+pub fn numbers<const N: usize>(line: &[u8]) -> [u16; N] {
+    let mut numbers = [0; N];
+    for (number, word) in numbers.iter_mut().rev().zip(line.rsplit(|b| *b == b' ')) {
+        *number = (number_of(word) % 65536) as u16;
     }
-}
-
-// The numbers of a line, with zeros before them: the last number is `row[6]`.
-fn numbers(line: &[u8]) -> [usize; 7] {
-    let mut row: [usize; 7] = [0; 7];
-    let mut i: usize = 0;
-    while i < line.len() {
-        let next = with_byte(row, line[i]);
-        row = next;
-        i += 1;
-    }
-    row
+    numbers
 }
 
 // The last number of a line, which may not fit sixteen bits.
-pub fn last_of(line: &[u8]) -> usize {
-    let row = numbers(line);
-    row[6]
+pub fn last_number(line: &[u8]) -> usize {
+    line.rsplit(|b| *b == b' ').next().map_or(0, number_of)
 }
 
-fn low(x: usize) -> u16 {
-    (x % 65536) as u16
-}
-
-// The numbers of a line, which fit sixteen bits.
-pub fn row_of(line: &[u8]) -> [u16; 7] {
-    let row = numbers(line);
-    [
-        low(row[0]),
-        low(row[1]),
-        low(row[2]),
-        low(row[3]),
-        low(row[4]),
-        low(row[5]),
-        low(row[6]),
-    ]
+// The number that the digits of a word make; one too large begins anew.
+fn number_of(word: &[u8]) -> usize {
+    word.iter()
+        .filter(|b| b.is_ascii_digit())
+        .fold(0, |number: usize, digit| {
+            let tens = number.checked_mul(10);
+            tens.map_or(0, |tens| tens.wrapping_add(usize::from(*digit % 16)))
+        })
 }

@@ -2,42 +2,66 @@
 // its group, and the numbers that make it, which the line with # above the group names. It is printed with what was answered.
 #![tactic(auto)]
 
-mod build;
 mod bytes;
+mod job;
 mod lines;
 mod packing;
 mod reading;
-mod records;
+mod shape;
 mod show;
 mod unpacking;
 
 ghost use Rattle.std.specs.Prelude.{◌≤◌, length};
 
-use crate::bytes::front;
-use crate::lines::{begins, line_end, row_of};
-use std::io::Read;
+use crate::job::Job;
+use crate::lines::{Test, last_number, numbers};
+use crate::show::Answer;
+use std::io;
+use std::io::{Read, Write};
 use std::rt::{Stdin, Stdout};
 
-fn test(to: Stdout, line: &[u8], job: &mut [u8]) {
-    show::text(to, line);
-    if begins(line, b"#") {
-        return show::end(to);
+fn answer(test: Test, line: &[u8], job: &mut Job) -> Answer {
+    match test {
+        Test::Length => reading::length(job, last_number(line)),
+        Test::Sized => reading::sized(job, numbers(line)),
+        Test::AllZeroBlock => reading::all_zero(job, numbers(line)),
+        Test::Flipped => reading::flipped(job, numbers(line)),
+        Test::Exchanged => reading::exchanged(job, numbers(line)),
+        Test::Edited(shape) => reading::edited(job, shape, numbers(line)),
+        Test::EditedTwice(shape) => reading::edited_twice(job, shape, numbers(line)),
+        Test::WrongFrom => reading::wrong_from(job, last_number(line)),
+        Test::Record(kind) => reading::record(job, kind, numbers(line)),
+        Test::PackVariables => packing::zeros(last_number(line), [8, 0, 0, 1024]),
+        Test::Pack => {
+            let [k, nodes, expressions, clauses, room] = numbers::<5>(line);
+            packing::zeros(usize::from(k), [nodes, expressions, clauses, room])
+        }
+        Test::Repack => packing::repacked(job, numbers(line)),
+        Test::Flag => packing::flag(job),
+        Test::Unpack => unpacking::unpacked(job, numbers(line)),
     }
-    show::text(to, b":");
-    let row = row_of(line);
-    reading::test(to, line, row, job);
-    records::test(to, line, row, job);
-    packing::test(to, line, row, job);
-    unpacking::test(to, line, row, job);
+}
+
+// Prints a line and its answer; a line with # as it stands, and one that asks nothing with no end.
+fn tell(to: &mut Stdout, line: &[u8], job: &mut Job) -> io::Result<()> {
+    to.write_all(line)?;
+    if line.starts_with(b"#") {
+        return writeln!(to);
+    }
+    match Test::of(line) {
+        Some(test) => writeln!(to, ":{}", answer(test, line, job)),
+        None => write!(to, ":"),
+    }
 }
 
 // The job is built anew for each test but `wrong-from`, which goes on with that of the line before.
-fn run(to: Stdout, tests: &[u8], job: &mut [u8]) {
-    let mut at: usize = 0;
-    while at < tests.len() {
-        let end = line_end(tests, at);
-        test(to, &tests[at..end], job);
-        at = end + 1;
+fn run(to: &mut Stdout, tests: &[u8], job: &mut Job) {
+    // the last line ends at the last byte, whatever that is
+    let Some((_, lines)) = tests.split_last() else {
+        return;
+    };
+    for line in lines.split(|b| *b == b'\n') {
+        let _ = tell(to, line, job);
     }
 }
 
@@ -46,12 +70,8 @@ fn read_full(input: &mut Stdin, buffer: &mut [u8]) -> usize
     ensures { result ≤ length buffer.old }
 {
     let mut done: usize = 0;
-    while done < buffer.len() {
-        match input.read(&mut buffer[done..]) {
-            Ok(0) => return done,
-            Ok(more) => done += more,
-            Err(_) => return done,
-        }
+    while let Ok(more @ 1..) = input.read(&mut buffer[done..]) {
+        done += more;
     }
     done
 }
@@ -59,7 +79,5 @@ fn read_full(input: &mut Stdin, buffer: &mut [u8]) -> usize
 fn main(rt: HostRuntime) {
     let mut tests = [0u8; 16384];
     let size = read_full(&mut rt.stdin(), &mut tests);
-    // 128 blocks, for a length that does not fit sixteen bits.
-    let mut job = [0u8; 65536];
-    run(rt.stdout(), front(&tests, size), &mut job);
+    run(&mut rt.stdout(), &tests[..size], &mut Job::new());
 }

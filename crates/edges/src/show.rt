@@ -1,70 +1,127 @@
-// The parts of a line of output.
-use crate::bytes;
-use std::io::Write;
-use std::rt::Stdout;
-use stored::{Packed, Read, Refusal};
+// What the tests answer, and how a line of output tells it.
+use std::fmt;
+use stored::{Refusal, Size};
 
-pub fn text(to: Stdout, t: &[u8]) {
-    let mut stdout = to;
-    let _ = stdout.write_all(t);
+#[derive(Clone, Copy)]
+struct Refused(Refusal);
+
+impl fmt::Display for Refused {
+    fn fmt<W: fmt::Write>(&self, f: &mut fmt::Formatter<W>) -> fmt::Result {
+        let Refusal {
+            number,
+            block,
+            record,
+        } = self.0;
+        write!(f, " refused {number} {block} {record}")
+    }
 }
 
-pub fn end(to: Stdout) {
-    text(to, b"\n");
-}
+// What reading a job answered.
+#[derive(Clone, Copy)]
+pub struct Reading(pub Result<Size, Refusal>);
 
-fn number(to: Stdout, n: usize) {
-    text(to, b" ");
-    let _ = print!(to; "{n}");
-}
-
-fn refused(to: Stdout, r: Refusal) {
-    text(to, b" refused");
-    number(to, r.number);
-    number(to, r.block);
-    number(to, r.record);
-}
-
-pub fn read(to: Stdout, answer: Read) {
-    match answer {
-        Read::Refused(r) => refused(to, r),
-        Read::Accepted(z) => {
-            text(to, b" sizes");
-            number(to, z.k);
-            number(to, z.n);
-            number(to, z.e);
-            number(to, z.c);
+impl fmt::Display for Reading {
+    fn fmt<W: fmt::Write>(&self, f: &mut fmt::Formatter<W>) -> fmt::Result {
+        match self.0 {
+            Ok(Size { k, n, e, c }) => write!(f, " sizes {k} {n} {e} {c}"),
+            Err(refusal) => write!(f, "{}", Refused(refusal)),
         }
     }
 }
 
-pub fn same(to: Stdout, yes: bool) {
-    if yes {
-        text(to, b" same");
-    } else {
-        text(to, b" differs");
+// Whether bytes are those that they should be.
+#[derive(Clone, Copy)]
+pub struct Same(pub bool);
+
+impl fmt::Display for Same {
+    fn fmt<W: fmt::Write>(&self, f: &mut fmt::Formatter<W>) -> fmt::Result {
+        f.write_str(if self.0 { " same" } else { " differs" })
     }
 }
 
-pub fn kept(to: Stdout, yes: bool) {
-    if yes {
-        text(to, b" kept");
-    } else {
-        text(to, b" changed");
+// Whether what was lent was left alone past what was written.
+#[derive(Clone, Copy)]
+pub struct Kept(pub bool);
+
+impl fmt::Display for Kept {
+    fn fmt<W: fmt::Write>(&self, f: &mut fmt::Formatter<W>) -> fmt::Result {
+        f.write_str(if self.0 { " kept" } else { " changed" })
     }
 }
 
-// What packing answered, and whether it left the rest of its output alone.
-pub fn packed(to: Stdout, answer: Packed, out: &[u8]) {
-    match answer {
-        Packed::Refused(r) => {
-            refused(to, r);
-            kept(to, bytes::kept(out, 0));
+// What packing answered.
+#[derive(Clone, Copy)]
+pub struct Packing {
+    pub answer: Result<usize, Refusal>,
+    pub kept: Kept,
+}
+
+impl fmt::Display for Packing {
+    fn fmt<W: fmt::Write>(&self, f: &mut fmt::Formatter<W>) -> fmt::Result {
+        let kept = self.kept;
+        match self.answer {
+            Ok(size) => write!(f, " written {size}{kept}"),
+            Err(refusal) => write!(f, "{}{kept}", Refused(refusal)),
         }
-        Packed::Written(n) => {
-            text(to, b" written");
-            number(to, n);
-            kept(to, bytes::kept(out, n));
+    }
+}
+
+// What unpacking answered; once accepted, the lists also have the records or not.
+#[derive(Clone, Copy)]
+pub struct Unpacking {
+    pub reading: Reading,
+    pub same: Option<Same>,
+    pub kept: Kept,
+}
+
+impl fmt::Display for Unpacking {
+    fn fmt<W: fmt::Write>(&self, f: &mut fmt::Formatter<W>) -> fmt::Result {
+        let (reading, kept) = (self.reading, self.kept);
+        match self.same {
+            Some(same) => write!(f, "{reading}{same}{kept}"),
+            None => write!(f, "{reading}{kept}"),
+        }
+    }
+}
+
+// What packing a job's records answered; once written, it is the job or not, and is unpacked.
+#[derive(Clone, Copy)]
+pub struct RoundTrip {
+    pub packing: Packing,
+    pub back: Option<(Same, Unpacking)>,
+}
+
+impl fmt::Display for RoundTrip {
+    fn fmt<W: fmt::Write>(&self, f: &mut fmt::Formatter<W>) -> fmt::Result {
+        let packing = self.packing;
+        match self.back {
+            Some((same, unpacking)) => write!(f, "{packing}{same} unpack{unpacking}"),
+            None => write!(f, "{packing}"),
+        }
+    }
+}
+
+// What a test answers.
+#[derive(Clone, Copy)]
+pub enum Answer {
+    Read(Reading),
+    ReadAndPacked(Reading, Packing),
+    Packed(Packing),
+    RoundTrip(RoundTrip),
+    Flag(Reading, RoundTrip),
+    Unpacked(Unpacking),
+}
+
+impl fmt::Display for Answer {
+    fn fmt<W: fmt::Write>(&self, f: &mut fmt::Formatter<W>) -> fmt::Result {
+        match self {
+            Answer::Read(reading) => write!(f, "{reading}"),
+            Answer::ReadAndPacked(reading, packing) => write!(f, " read{reading} pack{packing}"),
+            Answer::Packed(packing) => write!(f, "{packing}"),
+            Answer::RoundTrip(trip) => write!(f, "{trip}"),
+            // the flag job is packed in a line of its own
+            Answer::Flag(reading, trip) => write!(f, "{reading}\nrepack 1 2 2 4 2048:{trip}"),
+            Answer::Unpacked(unpacking) => write!(f, "{unpacking}"),
         }
     }
 }

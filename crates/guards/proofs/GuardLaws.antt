@@ -1,21 +1,26 @@
 -- The words of guards, expression by expression.
 -- Assumes nothing.
-use mathlib.Core.Path.{◌≡◌, refl, sym, ◌∙◌, ap}
-use mathlib.Core.Bool.{false, cond}
-use mathlib.Core.List.{List}
-use Prim.Native.Nat.{ℕ, zero, suc, ◌+◌, ◌*◌, ◌≤◌, ◌<◌}
-use native.Mathlib.Decide.{dec_lt, ℕ_discrete}
-use native.Mathlib.Omega.{arith}
-use borrow.Author.Tests.{lt-ltb, le-ltb}
-use lib.ListN.{length, get_or, set, length-append, get_or-append, get_or-eq_default}
-use lib.Seq.{get_or-set_same, get_or-set_other, get_or-append-add}
+use Rattle.std.proofs.Common.{◌≡◌, refl, sym, ◌∙◌, ap, Bool, false, ℕ, zero, suc, ◌+◌, ◌*◌, ◌<◌, List, length, take, map, slice_set, arith}
+use Rattle.std.proofs.lemmas.List.{get_or-take, map-append}
+use Rattle.std.proofs.Math.Seq.{take-suc-set}
+use native.Mathlib.Decide.{dec_lt}
+use lib.ListN.{get_or, length-append, get_or-append, get_or-map}
+use lib.Seq.{get_or-append-add}
 use Rattle.meaning.specs.declared.Expression.{Expression}
-use Rattle.meaning.specs.Guards.{bit_of, truths, truth}
-use Rattle.words.specs.Places.{op_truth, ExpressionWord}
+use Rattle.meaning.specs.Guards.{bit_of, truth_given, truths, truth}
 use Rattle.words.proofs.Bits.{bit_zero}
-use Rattle.words.proofs.Expressions.{op_truth_lem}
-use Rattle.decoded.specs.Fields.{byte0, half1, half2, expression_of, job_from}
-use Rattle.guards.specs.Guarded.{Guarded, GuardWords, earlier_word}
+use Rattle.decoded.specs.declared.Plan.{Plan}
+use Rattle.decoded.specs.Plans.{expression_of}
+use Rattle.decoded.specs.Meant.{job_in}
+use Rattle.guards.specs.Guarded.{Guarded, GuardWords}
+
+-- the bits of words at a place
+abbrev pub bits : List ℕ → ℕ → List Bool
+bits words p = map (λ w. bit_of w p) words
+
+-- a word past the end has no bit
+pub bits_at : (words : List ℕ) (p a : ℕ) → get_or (bits words p) a false ≡ bit_of (get_or words a 0) p
+bits_at words p a = ap (get_or (bits words p) a) (sym (bit_zero p)) ∙ get_or-map (λ w. bit_of w p) words a 0
 
 -- the truths of the first i expressions, one by one
 length_truths : (es : ℕ → Expression) (x i : ℕ) → length (truths es x i) ≡ i
@@ -36,47 +41,32 @@ truths_at es x (suc i) m h = go (truths_at es x i m) (dec_lt m i)
         ap (λ k. get_or (truths es x (suc i)) k false) e ∙ get_or-append-add (truths es x i) _ 0 false ∙ ap (truth es x) f
 truths_at es x zero m h = absurd (omega arith)
 
-module _ (expressions : List ℕ) (g : ℕ) where
-  abbrev es : ℕ → Expression
-  es a = expression_of (get_or expressions a 0)
+-- the first i words have at each place the truths of the first i expressions
+pub record Worked (es : ℕ → Expression) (g i : ℕ) (words : List ℕ) : Type 0 where
+  pub at : (p : ℕ) → p < 64 → bits (take i words) p ≡ truths es (64 * g + p) i
 
-  -- the bit of an earlier word is the truth that the list of truths has
-  earlier_bit : (words : List ℕ) (i : ℕ) → GuardWords expressions i g words → (p : ℕ) → p < 64 → (a : ℕ) → bit_of (earlier_word words i a) p ≡ get_or (truths es (64 * g + p) i) a false
-  earlier_bit words i w p l a = go (dec_lt a i)
-    where
-      go : Dec (a < i) → bit_of (earlier_word words i a) p ≡ get_or (truths es (64 * g + p) i) a false
-      go (yes h) = ap (λ b. bit_of (cond b (get_or words a 0) 0) p) (lt-ltb a i h) ∙ w.at p l a h ∙ sym (truths_at es (64 * g + p) i a h)
-      go (no h) =
-          ap (λ b. bit_of (cond b (get_or words a 0) 0) p) (le-ltb a i (omega arith))
-          ∙ bit_zero p
-          ∙ sym (get_or-eq_default (truths es (64 * g + p) i) false (omega (arith, length_truths es (64 * g + p) i)))
+pub worked_none : (es : ℕ → Expression) (g : ℕ) (words : List ℕ) → Worked es g 0 words
+unfolding truths
+worked_none es g words = record { at = λ p l. refl }
 
-  pub guards_none : (words : List ℕ) → GuardWords expressions 0 g words
-  guards_none words = record { at = λ i l m h. absurd (omega arith) }
+pub worked_more : {es : ℕ → Expression} {g i : ℕ} (r : ℕ) {words : List ℕ} → i < length words → Worked es g i words
+    → ((p : ℕ) → p < 64 → bit_of r p ≡ truth_given (64 * g + p) (bits (take i words) p) (es i)) → Worked es g (i + 1) (slice_set words i r)
+unfolding truths
+worked_more {es} {g} {i} r {words} h w new =
+    record {
+      at = λ p l.
+          let e : i + 1 ≡ suc i = omega arith in
+          rw (e, take-suc-set words i r h, map-append, w.at p l, new p l ∙ ap (λ bs. truth_given (64 * g + p) bs (es i)) (w.at p l));
+    }
 
-  -- one expression more
-  pub guards_more : {words : List ℕ} {i op a b x y r : ℕ} → GuardWords expressions i g words → i < length words
-      → op ≡ byte0 (get_or expressions i 0) → a ≡ half1 (get_or expressions i 0) → b ≡ half2 (get_or expressions i 0)
-      → x ≡ earlier_word words i a → y ≡ earlier_word words i b → ExpressionWord op g a x y r → GuardWords expressions (i + 1) g (set words i r)
-  unfolding expression_of truth
-  guards_more {words} {i} {op} {a} {b} {x} {y} {r} w l eo ea eb ex ey new = record { at = λ p k m h. go p k m h (ℕ_discrete m i) }
-    where
-      here : (p : ℕ) → p < 64 → bit_of r p ≡ truth es (64 * g + p) i
-      here p k =
-          new.at p k
-          ∙ rw (ex, ey, eo, ea, eb) (ap (λ t. op_truth (byte0 (get_or expressions i 0)) (bit_of (64 * g + p) (half1 (get_or expressions i 0))) t (bit_of (earlier_word words i (half2 (get_or expressions i 0))) p)) (earlier_bit words i w p k (half1 (get_or expressions i 0)))
-          ∙ ap (λ t. op_truth (byte0 (get_or expressions i 0)) (bit_of (64 * g + p) (half1 (get_or expressions i 0))) (get_or (truths es (64 * g + p) i) (half1 (get_or expressions i 0)) false) t) (earlier_bit words i w p k (half2 (get_or expressions i 0))))
-          ∙ sym (op_truth_lem (64 * g + p) (truths es (64 * g + p) i) (byte0 (get_or expressions i 0)) (half1 (get_or expressions i 0)) (half2 (get_or expressions i 0)))
-
-      go : (p : ℕ) → p < 64 → (m : ℕ) → m < i + 1 → Dec (m ≡ i) → bit_of (get_or (set words i r) m 0) p ≡ truth es (64 * g + p) m
-      go p k m h (yes e) = rw e (ap (λ v. bit_of v p) (get_or-set_same words i r 0 l) ∙ here p k)
-      go p k m h (no e) = ap (λ v. bit_of v p) (get_or-set_other words i m r 0 e) ∙ w.at p k m (omega arith)
-
-  -- a loop past the last expression has them all
-  pub guards_all : {words : List ℕ} {i e : ℕ} → e ≤ i → GuardWords expressions i g words → GuardWords expressions e g words
-  guards_all h w = record { at = λ p k m l. w.at p k m (omega arith) }
+pub all_worked : (p : Plan) (g : ℕ) (words : List ℕ) → Worked (expression_of p.expressions) g p.size.e words → GuardWords p g words
+all_worked p g words w =
+    record {
+      at = λ i l m k.
+          ap (λ x. bit_of x i) (sym (get_or-take p.size.e words m 0 k)) ∙ sym (bits_at (take p.size.e words) i m)
+          ∙ ap (λ bs. get_or bs m false) (w.at i l) ∙ truths_at (expression_of p.expressions) (64 * g + i) p.size.e m k;
+    }
 
 -- the words of a group guard each of its cases
-pub guarded : (k n : ℕ) (nodes expressions : List ℕ) (c : ℕ) (clauses : List ℕ) (e g : ℕ) (words : List ℕ) (i : ℕ) → i < 64 → GuardWords expressions e g words → Guarded (job_from k n nodes expressions c clauses) e words i (64 * g + i)
-unfolding job_from
-guarded k n nodes expressions c clauses e g words i l w = record { at = λ m h. w.at i l m h }
+pub guarded : (p : Plan) (g : ℕ) (words : List ℕ) (i : ℕ) → i < 64 → GuardWords p g words → Guarded (job_in p) p.size.e words i (64 * g + i)
+guarded p g words i l w = record { at = λ m h. w.at i l m h }

@@ -1,34 +1,45 @@
 // The guards of sixty-four cases together: a word for each expression, one bit a case.
 #![tactic(auto)]
 
-ghost use Rattle.std.specs.Prelude.{◌≡◌, ℕ, ◌<◌, ◌≤◌, length, get_or};
-ghost use Rattle.decoded.specs.Fields.{byte0, half1, half2};
-ghost use Rattle.guards.specs.Guarded.{GuardWords, earlier_word};
+ghost use Rattle.std.specs.Prelude.{◌≡◌, true, false, ℕ, ◌+◌, ◌*◌, ◌<◌, length, map, slice_index_or};
+ghost use Rattle.meaning.specs.Guards.{bit_of, truth_given};
+ghost use Rattle.decoded.specs.Plans.{names_earlier};
+ghost use Rattle.guards.specs.Guarded.{GuardWords};
 
-use decoded::{first_byte, first_half, second_half};
-use words::expression_word;
+use decoded::Plan;
+use meaning::Expression;
+use words::{ALL, variable_word};
 
-// The word of an expression before number i; what is no earlier expression has none.
-fn earlier(words: &[u64], i: usize, a: usize) -> u64
-    requires { i ≤ length words.now }
-    ensures { result ≡ earlier_word words.now i a }
+fn operand(earlier: &[u64], a: u16) -> u64
+    requires { a < length earlier.now }
+    ensures { (p : ℕ) → bit_of result p ≡ slice_index_or (map (λ w. bit_of w p) earlier.now) a false }
 {
-    if a < i { words[a] } else { 0 }
+    earlier[usize::from(a)]
+}
+
+// The word of an expression in group `g`, from the words of those before it.
+fn expression_word(expression: Expression, g: usize, earlier: &[u64]) -> u64
+    requires { names_earlier 16 (length earlier.now) expression ≡ true }
+    ensures { (p : ℕ) → p < 64 → bit_of result p ≡ truth_given (64 * g + p) (map (λ w. bit_of w p) earlier.now) expression }
+{
+    match expression {
+        Expression::False => 0,
+        Expression::True => ALL,
+        Expression::Variable(v) => variable_word(g, usize::from(v)),
+        Expression::Not(a) => !operand(earlier, a),
+        Expression::And(a, b) => operand(earlier, a) & operand(earlier, b),
+        Expression::Or(a, b) => operand(earlier, a) | operand(earlier, b),
+        Expression::Xor(a, b) => operand(earlier, a) ^ operand(earlier, b),
+    }
 }
 
 // The words of all expressions in group `g`.
-pub fn guard_words(expressions: &[u64], e: usize, g: usize, words: &mut [u64])
-    requires e_in_bounds { (e ≤ length expressions.now) × (e ≤ length words.old) }
-    requires by_index { (i : ℕ) → i < e → byte0 (get_or expressions.now i 0) ≡ 2 → half1 (get_or expressions.now i 0) < 12 }
-    ensures { GuardWords expressions.now e g words.new }
+pub fn guard_words(plan: &Plan, g: usize) -> [u64; 504]
+    ensures { GuardWords plan.now g result }
 {
-    let mut i: usize = 0;
-    while i < e {
-        let w = expressions[i];
-        let a = first_half(w);
-        let x = earlier(words, i, a);
-        let y = earlier(words, i, second_half(w));
-        words[i] = expression_word(first_byte(w), g, a, x, y);
-        i += 1;
+    let mut words = [0u64; 504];
+    for i in 0..plan.size.e {
+        words[i] = expression_word(plan.expressions[i], g, &words[..i]);
     }
+    words
 }

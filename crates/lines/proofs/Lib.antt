@@ -1,5 +1,3 @@
-pub mod Known
-pub mod GiveLaws
 pub mod ReadBack
 pub mod Apart
 pub mod OneLine

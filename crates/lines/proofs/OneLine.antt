@@ -3,9 +3,8 @@
 use mathlib.Core.Path.{◌≡◌, refl}
 use mathlib.Core.Bool.{Bool, true, false, ◌&&◌, cond}
 use mathlib.Core.List.{List, [], ◌∷◌, ◌++◌}
-use native.Mathlib.Decide.{dec_lt}
 use native.Mathlib.Omega.{arith}
-use Prim.Native.Nat.{ℕ, zero, suc, ◌/◌, ◌%◌, ◌≤◌, ◌<◌}
+use Prim.Native.Nat.{ℕ, ◌%◌, ◌≤◌, ◌<◌}
 use Prim.Native.String.{String}
 use lib.Dec.{T, leb, ltb, eqb, leb→le, ltb→lt}
 use lib.ListN.{length, length-append}
@@ -16,7 +15,7 @@ use Rattle.meaning.specs.declared.JobAnswer.TheVariants.{Holds, Fails, Vacant}
 use Rattle.texts.specs.Texts.{text}
 use Rattle.texts.specs.Decimals.{digit, decimal}
 use Rattle.lines.specs.Lines.{field, value, counts, place, missed, verdict_line, refusal_line}
-use Rattle.texts.proofs.DecimalLaws.{decimal_small, decimal_more}
+use Rattle.texts.proofs.DecimalLaws.{by_digits}
 
 -- from the space to the tilde
 pub data Printable : List ℕ → Type 0 where
@@ -47,16 +46,8 @@ shown (b ∷ s) t =
 shown_digit : (d : ℕ) → d < 10 → Printable (digit d ∷ [])
 shown_digit d h = byte {b = digit d} (omega arith) (omega arith) none
 
-shown_decimal : (n x : ℕ) → x < n → Printable (decimal x)
-shown_decimal zero x h = absurd (omega arith)
-shown_decimal (suc n) x h = go (dec_lt x 10) (shown_decimal n (x / 10))
-  where
-    go : Dec (x < 10) → (x / 10 < n → Printable (decimal (x / 10))) → Printable (decimal x)
-    go (yes l) ih = rw (decimal_small x l) (shown_digit x l)
-    go (no l) ih = rw (decimal_more x (omega arith)) (both (ih (omega arith)) (shown_digit (x % 10) (omega arith)))
-
 shown_number : (x : ℕ) → Printable (decimal x)
-shown_number x = shown_decimal (suc x) x (omega arith)
+shown_number = by_digits (λ _ s. Printable s) shown_digit (λ x s h ih. both ih (shown_digit (x % 10) (omega arith)))
 
 shown_field : (name : String) (x : ℕ) → T (bytes_shown (text name)) → Printable (field name x)
 unfolding field

@@ -2,18 +2,18 @@
 -- Assumes nothing.
 use Rattle.std.specs.Prelude.{Result, Ok, Err}
 use Rattle.stored.specs.declared.Refusal.{Refusal}
-use borrow.Author.Tests.{eqb-true, le-leb, lt-ltb}
 use mathlib.Core.Path.{◌≡◌, refl, ◌∙◌, ap}
 use mathlib.Core.Bool.{Bool, true, false, not, ◌&&◌, cond}
 use mathlib.Core.List.{List, [], ◌∷◌, ◌++◌, append_assoc}
 use mathlib.Core.Option.{Option, none, some}
-use native.Mathlib.Decide.{dec_lt}
 use native.Mathlib.Omega.{arith}
-use Prim.Native.Nat.{ℕ, zero, suc, ◌+◌, ◌-◌, ◌*◌, ◌/◌, ◌%◌, ◌<◌}
+use Prim.Native.Nat.{ℕ, ◌+◌, ◌-◌, ◌*◌, ◌%◌, ◌<◌}
 use Prim.Native.String.{String}
 use lib.Dec.{T, leb, ltb, eqb}
 use lib.ListN.{get_or}
 use lib.Seq.{append_snoc}
+use Rattle.std.proofs.lemmas.Grind.{common_steps}
+use Rattle.std.proofs.lemmas.Bool.Decides.{nat_tests}
 use Rattle.meaning.specs.declared.Counts.{Counts}
 use Rattle.meaning.specs.declared.JobAnswer.{JobAnswer}
 use Rattle.meaning.specs.declared.JobAnswer.TheVariants.{Holds, Fails, Vacant}
@@ -23,7 +23,7 @@ use Rattle.verdicts.specs.Running.{stated_checked}
 use Rattle.texts.specs.Texts.{text}
 use Rattle.texts.specs.Decimals.{digit, decimal}
 use Rattle.lines.specs.Lines.{field, value, counts, place, missed, verdict_line, refusal_line, checked_line}
-use Rattle.texts.proofs.DecimalLaws.{decimal_small, decimal_more}
+use Rattle.texts.proofs.DecimalLaws.{by_digits}
 
 is_digit : ℕ → Bool
 is_digit b = leb 48 b && ltb b 58
@@ -45,22 +45,14 @@ read_line s = state (word_in s) (numbers none s)
 
 digit_is : (d : ℕ) → d < 10 → is_digit (digit d) ≡ true
 unfolding is_digit
-digit_is d h = rw (le-leb 48 (48 + d) (omega arith), lt-ltb (48 + d) 58 (omega arith))
+digit_is d h = grind (arith, nat_tests)
 
 -- the digits of a number are read as that number
-decimal_read : (n x : ℕ) → x < n → (s : List ℕ) → numbers none (decimal x ++ s) ≡ numbers (some x) s
-unfolding numbers
-decimal_read zero x h s = absurd (omega arith)
-decimal_read (suc n) x h s = go (dec_lt x 10) (decimal_read n (x / 10))
-  where
-    go : Dec (x < 10) → (x / 10 < n → (s : List ℕ) → numbers none (decimal (x / 10) ++ s) ≡ numbers (some (x / 10)) s) → numbers none (decimal x ++ s) ≡ numbers (some x) s
-    go (yes l) ih = let e : 48 + x - 48 ≡ x = omega arith in rw (decimal_small x l, digit_is x l, e)
-    go (no l) ih =
-        let e : 10 * (x / 10) + (48 + x % 10 - 48) ≡ x = omega arith in
-        rw (decimal_more x (omega arith), append_snoc (decimal (x / 10)) (digit (x % 10)) s, ih (omega arith) (digit (x % 10) ∷ s), digit_is (x % 10) (omega arith), e)
-
 number_read : (x : ℕ) (s : List ℕ) → numbers none (decimal x ++ s) ≡ numbers (some x) s
-number_read x = decimal_read (suc x) x (omega arith)
+unfolding numbers
+number_read = by_digits (λ x ds. (s : List ℕ) → numbers none (ds ++ s) ≡ numbers (some x) s)
+    (λ x l s. grind (arith, digit_is x))
+    (λ x ds h ih s. grind (arith, append_snoc ds (digit (x % 10)) s, ih (digit (x % 10) ∷ s), digit_is (x % 10)))
 
 -- a text without digits and X is passed over
 quiet : List ℕ → Bool
@@ -71,13 +63,7 @@ quiet (b ∷ p) = not (is_digit b) && (not (eqb b 88) && quiet p)
 skipped : (p s : List ℕ) → T (quiet p) → numbers none (p ++ s) ≡ numbers none s
 unfolding numbers is_digit quiet
 skipped [] s t = refl
-skipped (b ∷ p) s t = go (is_digit b) (eqb b 88) t (skipped p s)
-  where
-    go : (c d : Bool) → T (not c && (not d && quiet p)) → (T (quiet p) → numbers none (p ++ s) ≡ numbers none s)
-        → cond c (numbers (some (b - 48)) (p ++ s)) (cond d (2 ∷ numbers none (p ++ s)) (numbers none (p ++ s))) ≡ numbers none s
-    go true d t ih = absurd t
-    go false true t ih = absurd t
-    go false false t ih = ih t
+skipped (b ∷ p) s t = grind (arith, nat_tests, common_steps, skipped p s)
 
 -- and ends the number before it
 parts : List ℕ → Bool
@@ -88,11 +74,7 @@ parts (b ∷ p) = not (is_digit b) && quiet p
 ended : (x : ℕ) (p s : List ℕ) → T (parts p) → numbers (some x) (p ++ s) ≡ x ∷ numbers none s
 unfolding numbers is_digit quiet parts
 ended x [] s t = absurd t
-ended x (b ∷ p) s t = go (is_digit b) t
-  where
-    go : (c : Bool) → T (not c && quiet p) → cond c (numbers (some (10 * x + (b - 48))) (p ++ s)) (x ∷ numbers none (p ++ s)) ≡ x ∷ numbers none s
-    go true t = absurd t
-    go false t = ap (λ ns. x ∷ ns) (skipped p s t)
+ended x (b ∷ p) s t = grind (arith, nat_tests, common_steps, skipped p s)
 
 -- the first field of a line, and the next one
 first_read : (name : String) (x : ℕ) (s : List ℕ) → T (quiet (text name)) → numbers none (field name x ++ s) ≡ numbers (some x) s
@@ -105,11 +87,7 @@ next_read x name y s t = ap (numbers (some x)) (append_assoc (text name) (decima
 
 value_read : (v : ℕ) → numbers none (value v ++ text "\n") ≡ v ∷ []
 unfolding numbers is_digit value
-value_read v = go (eqb v 2) refl
-  where
-    go : (b : Bool) → eqb v 2 ≡ b → numbers none (cond b (text "X") (decimal v) ++ text "\n") ≡ v ∷ []
-    go true e = rw (eqb-true v 2 e)
-    go false e = number_read v (text "\n")
+value_read v = grind (arith, nat_tests, common_steps, number_read v (text "\n"))
 
 -- the numbers of each piece of a verdict's line
 counts_read : (c : Counts) (s : List ℕ) → numbers none (counts c ++ s) ≡ c.cases ∷ c.passing ∷ c.failing ∷ numbers (some c.empty) s

@@ -1,27 +1,31 @@
-// The pieces of a line that name something: each is put at a place, and answered with the place after it.
-ghost use Rattle.std.specs.Prelude.{◌++◌, ◌+◌, ◌≤◌, length};
+// The pieces of a line that name something: each is put at its end.
+ghost use Rattle.std.specs.Prelude.{◌≡◌, ◌++◌, ◌+◌, ◌≤◌, length};
 ghost use Rattle.texts.specs.Decimals.{decimal};
-ghost use Rattle.texts.specs.Putting.{Puts};
 ghost use Rattle.lines.specs.Lines.{value};
 
-use texts::{put_number, put_text};
+use texts::{Line, push_number};
 
 // A name and a number, which has at most twenty digits.
-pub fn put_field(name: &[u8], x: usize, line: &mut [u8], at: usize) -> usize
-    requires { at + (length name.now + 20) ≤ length line.old }
-    ensures { Puts (name.now ++ decimal x) at line.old line.new result × (result ≤ at + (length name.now + 20)) }
+#[tactic(auto, using(texts::proofs::DecimalLaws::decimal_length))]
+pub fn push_field(line: &mut Line, name: &str, x: usize)
+    requires { length line.old.bytes + (length name.now + 20) ≤ 256 }
+    ensures is { line.new.bytes ≡ line.old.bytes ++ (name.now ++ decimal x) }
+    ensures short { length (decimal x) ≤ 20 }
 {
-    let next = put_text(name, line, at);
-    put_number(x, line, next)
+    line.push_str(name);
+    push_number(line, x);
 }
 
 // A value: 0, 1, or X where the number is 2.
-pub fn put_value(v: usize, line: &mut [u8], at: usize) -> usize
-    requires { at + 20 ≤ length line.old }
-    ensures { Puts (value v) at line.old line.new result × (result ≤ at + 20) }
+#[tactic(auto, using(texts::proofs::DecimalLaws::decimal_length), unfolding(crate::specs::Lines::value))]
+pub fn push_value(line: &mut Line, v: usize)
+    requires { length line.old.bytes + 20 ≤ 256 }
+    ensures is { line.new.bytes ≡ line.old.bytes ++ value v }
+    ensures short { length (value v) ≤ 20 }
 {
     if v == 2 {
-        return put_text(b"X", line, at);
+        line.push_str("X");
+    } else {
+        push_number(line, v);
     }
-    put_number(v, line, at)
 }

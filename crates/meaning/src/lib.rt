@@ -1,6 +1,9 @@
 // A job's parts, and what a case and a whole job are answered. What they mean stands in specs/.
 #![tactic(auto)]
 
+ghost use Rattle.std.specs.Prelude.{◌≡◌};
+ghost use Rattle.meaning.specs.Gates.{arity, gate_of_code};
+
 // The gates, in the order of their codes.
 #[derive(Clone, Copy, PartialEq, Eq)]
 pub enum Gate {
@@ -13,6 +16,42 @@ pub enum Gate {
     Or,
     Xor,
     Mux,
+}
+
+const BY_CODE: [Gate; 9] = [
+    Gate::Input,
+    Gate::Zero,
+    Gate::One,
+    Gate::Buf,
+    Gate::Not,
+    Gate::And,
+    Gate::Or,
+    Gate::Xor,
+    Gate::Mux,
+];
+
+impl Gate {
+    // The gate of a code from 0 to 8.
+    pub fn of_code(code: u8) -> Gate
+        ensures { result ≡ gate_of_code code }
+    {
+        BY_CODE
+            .get(usize::from(code))
+            .copied()
+            .unwrap_or(Gate::Input)
+    }
+
+    // How many of p, q and r it has.
+    pub fn arity(self) -> usize
+        ensures { result ≡ arity self }
+    {
+        match self {
+            Gate::Input | Gate::Zero | Gate::One => 0,
+            Gate::Buf | Gate::Not => 1,
+            Gate::And | Gate::Or | Gate::Xor => 2,
+            Gate::Mux => 3,
+        }
+    }
 }
 
 // A gate and the nodes of its operands; one that the gate lacks is not looked at.

@@ -1,22 +1,18 @@
 -- How a guard is made up of what its levels read: operands, `!`, and groups in brackets.
 -- Assumes nothing.
 use mathlib.Core.Path.{◌≡◌, refl, sym, ◌∙◌, ap, subst}
-use borrow.Author.Tests.{not-false}
-use mathlib.Core.Bool.{Bool, false, not}
 use mathlib.Core.List.{List, ◌∷◌}
 use native.Mathlib.Omega.{arith}
 use Prim.Native.Nat.{ℕ, suc, ◌+◌, ◌-◌, ◌*◌, ◌≤◌, ◌<◌}
 use lib.ListN.{length}
-use Rattle.stored.specs.Bytes.{byte_at}
 use Rattle.texts.specs.Putting.{Puts}
 use Rattle.texts.proofs.PutLaws.{puts_then, ended_at}
-use Rattle.phrases.specs.declared.guards.GuardRead.{GuardRead}
-use Rattle.phrases.specs.declared.guards.GuardRead.TheVariants.{Read, Stopped}
+use Rattle.phrases.specs.Operands.{NoOperand}
 use Rattle.grammar.specs.Guards.{Guard, letter, constant, complement, bracketed, size}
 use Rattle.grammar.specs.Records.{expression_record, guard_place, guard_records}
 use Rattle.grammar.specs.Points.{Frame, negating, grouping, groups, guarded, Point}
-use Rattle.phrases.specs.Places.{is_letter, Stands, Skips}
-use Rattle.phrases.specs.GuardsRead.{in_phase, wanting, having, Over, GuardTo, GuardNone, GuardCases, GuardAt, GuardAsked}
+use Rattle.phrases.specs.Places.{Stands, Skips}
+use Rattle.phrases.specs.GuardsRead.{in_phase, wanting, having, Over, GuardTo, GuardNone, GuardAsked}
 use Rattle.grammar.proofs.Frames.{strength_to, fresh_grouping, fresh_4}
 use Rattle.phrases.proofs.Feeding.{run_gaps}
 use Rattle.phrases.proofs.OperandLaws.{letter_goes, constant_goes, wanting_stops}
@@ -32,14 +28,6 @@ module _ (k n : ℕ) (text : List ℕ) (i : ℕ) (p : Point) (fs : List Frame) {
 
   pub had : (g : Guard) → having k n text i p a fs g ≡ having k n text i p b fs g
   had g = ap (λ u. having k n text i p u fs g) e
-
--- what was answered, once it is known which
-module _ {s k depth e pending i : ℕ} {text es es' : List ℕ} {r : GuardRead} (g : GuardAt s k depth e pending i text es es' r) where
-  pub read_to : {q f : ℕ} → r ≡ Read q f → GuardTo s s k depth e pending i text es es' q f
-  read_to is = subst (GuardCases s k depth e pending i text es es') is g.says
-
-  pub read_none : {j : ℕ} → r ≡ Stopped j → GuardNone s k depth e pending i text es es' j
-  read_none is = subst (GuardCases s k depth e pending i text es es') is g.says
 
 module _ {k depth e pending i : ℕ} {text es : List ℕ} (asked : GuardAsked k depth e pending i text es) where
   -- an operand
@@ -57,20 +45,16 @@ module _ {k depth e pending i : ℕ} {text es : List ℕ} (asked : GuardAsked k 
         comes = λ n p fs d f. goes n p fs ∙ run_gaps k n text (in_phase p (suc (e + pending)) (guarded fs g)) s.over ∙ had k n text q p fs (omega arith) g;
       }
 
-  pub letter_to : {es' : List ℕ} {q b : ℕ} {t : Bool} → t ≡ is_letter k text i → not t ≡ false → b ≡ byte_at text i → Puts (expression_record 2 (b - 97) 0) (8 * e) es es' (8 * e + 8) → Skips text (i + 1) q
-      → GuardTo 4 4 k depth e pending i text es es' q (e + 1)
+  pub letter_to : (v : ℕ) {es' : List ℕ} {q : ℕ} → v < k → Stands text i (97 + v) → Puts (expression_record 2 v 0) (8 * e) es es' (8 * e + 8) → Skips text (i + 1) q → GuardTo 4 4 k depth e pending i text es es' q (e + 1)
   unfolding size guard_records
-  letter_to {b = b} {t} t-is h same =
-      let v : b - 97 ≡ byte_at text i - 97 = omega arith in
-      operand_to (letter (byte_at text i - 97)) refl (ap (λ a. expression_record 2 a 0) (sym v)) (λ n p fs. letter_goes k n text p (e + pending) fs i asked.few_variables (sym t-is ∙ not-false t h))
+  letter_to v h s = operand_to (letter v) refl refl (λ n p fs. letter_goes k n text p (e + pending) fs v asked.few_variables h s)
 
-  pub constant_to : (v : ℕ) {es' : List ℕ} {q : ℕ} → v < 2 → Stands text i (48 + v) → Puts (expression_record v 0 0) (8 * e) es es' (8 * e + 8) → Skips text (i + 1) q
-      → GuardTo 4 4 k depth e pending i text es es' q (e + 1)
+  pub constant_to : (v : ℕ) {es' : List ℕ} {q : ℕ} → v < 2 → Stands text i (48 + v) → Puts (expression_record v 0 0) (8 * e) es es' (8 * e + 8) → Skips text (i + 1) q → GuardTo 4 4 k depth e pending i text es es' q (e + 1)
   unfolding size guard_records
   constant_to v h s = operand_to (constant v) refl refl (λ n p fs. constant_goes k n text p (e + pending) fs v h s)
 
-  pub operand_none : ¬ Stands text i 33 → ¬ Stands text i 40 → ¬ Stands text i 48 → ¬ Stands text i 49 → is_letter k text i ≡ false → GuardNone 4 k depth e pending i text es es i
-  operand_none a b c d l = record { size = refl; comes = λ n p fs _ _. wanting_stops k n text p (e + pending) fs a b asked.no_gap c d l }
+  pub operand_none : ¬ Stands text i 33 → ¬ Stands text i 40 → NoOperand k text i → GuardNone 4 k depth e pending i text es es i
+  operand_none a b here = record { size = refl; comes = λ n p fs _ _. wanting_stops k n text p (e + pending) fs a b asked.no_gap here.no-0 here.no-1 here.no_letter }
 
   -- `!`
   pub negated_to : {es₁ es₂ : List ℕ} {j q f : ℕ} → Stands text i 33 → e + pending + 2 ≤ 504 → Skips text (i + 1) j → GuardTo 4 4 k depth e (pending + 1) j text es es₁ q f → Puts (expression_record 3 (f - 1) 0) (8 * f) es₁ es₂ (8 * f + 8)

@@ -1,4 +1,5 @@
-pub mod Gapped
+pub mod Runs
+pub mod Exits
 pub mod Standing
 pub mod Feeding
 pub mod Stopping

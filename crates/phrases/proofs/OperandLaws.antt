@@ -99,14 +99,13 @@ module _ (k n : ℕ) (text : List ℕ) (p : Point) (used : ℕ) where
 
 -- where an operand is wanted
 module _ (k n : ℕ) (text : List ℕ) (p : Point) (used : ℕ) (fs : List Frame) where
-  pub letter_goes : (i : ℕ) → k ≤ 12 → is_letter k text i ≡ true → wanting k n text i p used fs ≡ having k n text (i + 1) p (suc used) fs (letter (byte_at text i - 97))
+  pub letter_goes : {i : ℕ} (v : ℕ) → k ≤ 12 → v < k → Stands text i (97 + v) → wanting k n text i p used fs ≡ having k n text (i + 1) p (suc used) fs (letter v)
   unfolding fed step
-  letter_goes i few e =
-      let (inside, (low, below)) = simp says at e in
-      let b = byte_at text i in
-      run_byte k n text i (ready false) (in_phase p used (guarding fs)) inside
-      ∙ rw (fed_variable k n (in_phase p used (guarding fs)) b low (omega arith) {q = in_phase p (suc used) (guarded fs (letter (b - 97)))} (rw (lt-ltb (b - 97) k below)))
-      (ready_same k n p (suc used) fs (letter (b - 97)) (i + 1) (drop (i + 1) text))
+  letter_goes {i} v few below s =
+      let e : 97 + v - 97 ≡ v = omega arith in
+      run_byte k n text i (ready false) (in_phase p used (guarding fs)) s.inside
+      ∙ rw (s.is, fed_variable k n (in_phase p used (guarding fs)) (97 + v) (omega arith) (omega arith) {q = in_phase p (suc used) (guarded fs (letter v))} (rw (e, lt-ltb v k below)))
+      (ready_same k n p (suc used) fs (letter v) (i + 1) (drop (i + 1) text))
 
   pub constant_goes : {i : ℕ} (v : ℕ) → v < 2 → Stands text i (48 + v) → wanting k n text i p used fs ≡ having k n text (i + 1) p (suc used) fs (constant v)
   unfolding fed step

@@ -1,10 +1,10 @@
 -- What reading a guard at a place comes to, for each strength of operator.
 -- Assumes nothing.
-use Rattle.std.specs.Prelude.{◌≡◌, false, List, ℕ, ◌+◌, ◌*◌, ◌≤◌, ◌<◌, length, drop}
+use Rattle.std.specs.Prelude.{◌≡◌, false, List, ℕ, ◌+◌, ◌*◌, ◌≤◌, ◌<◌, length, drop, Result, MatchResult}
 use Rattle.stored.specs.Bytes.{byte_at}
 use Rattle.texts.specs.Putting.{Puts}
-use Rattle.phrases.specs.declared.guards.GuardRead.{GuardRead}
-use Rattle.phrases.specs.declared.guards.GuardRead.TheVariants.{Read, Stopped}
+use Rattle.phrases.specs.declared.guards.GuardEnd.{GuardEnd}
+use Rattle.phrases.specs.declared.items.Stopped.{Stopped}
 use Rattle.grammar.specs.Items.{Operator, SIGN, mark_byte}
 use Rattle.phrases.specs.Places.{NoGap}
 use Rattle.grammar.specs.Guards.{Guard, strength, size}
@@ -45,12 +45,8 @@ pub record GuardNone (s k depth e pending i : ℕ) (text es es' : List ℕ) (j :
   pub size : length es' ≡ length es
   pub comes : (n : ℕ) (p : Point) (fs : List Frame) → groups fs ≡ depth → Fresh s fs → wanting k n text i p (e + pending) fs ≡ stops j
 
-abbrev pub GuardCases : ℕ → ℕ → ℕ → ℕ → ℕ → ℕ → List ℕ → List ℕ → List ℕ → GuardRead → Type 0
-GuardCases s k depth e pending i text es es' (Read q f) = GuardTo s s k depth e pending i text es es' q f
-GuardCases s k depth e pending i text es es' (Stopped j) = GuardNone s k depth e pending i text es es' j
-
-pub record GuardAt (s k depth e pending i : ℕ) (text es es' : List ℕ) (r : GuardRead) : Type 0 where
-  pub says : GuardCases s k depth e pending i text es es' r
+pub record GuardAt (s k depth e pending i : ℕ) (text es es' : List ℕ) (r : Result GuardEnd Stopped) : Type 0 where
+  pub says : MatchResult r (λ g. GuardTo s s k depth e pending i text es es' g.at g.expressions) (λ j. GuardNone s k depth e pending i text es es' j.at)
 
 -- what a guard is read with: a place without a gap, at most 32 brackets open, room for one operand more
 pub record GuardAsked (k depth e pending i : ℕ) (text es : List ℕ) : Type 0 where

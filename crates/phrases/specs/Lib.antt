@@ -1,2 +1,4 @@
 pub mod Places
+pub mod Operators
+pub mod Operands
 pub mod GuardsRead

@@ -1,11 +1,16 @@
 -- What the reader's functions say of places in the text: where gaps end, where a word or number ends, and how reading goes on from there.
 -- Assumes nothing.
-use Rattle.std.specs.Prelude.{◌≡◌, Bool, true, false, ◌&&◌, List, ℕ, ◌+◌, ◌-◌, ◌≤◌, ◌<◌, leb, ltb, eqb, length}
+use Rattle.std.specs.Prelude.{◌≡◌, Bool, true, false, ◌&&◌, List, ℕ, ◌+◌, ◌-◌, ◌≤◌, ◌<◌, leb, ltb, eqb, length, Result, MatchResult}
 use Rattle.stored.specs.Bytes.{byte_at}
-use Rattle.phrases.specs.declared.items.Step.{Step}
-use Rattle.phrases.specs.declared.items.Step.TheVariants.{To, Stuck}
+use Rattle.phrases.specs.declared.items.Stopped.{Stopped}
 use Rattle.grammar.specs.Spelling.{is_gap}
-use Rattle.grammar.specs.Bytewise.{is_digit}
+
+-- the bytes from `at` to q pass the test, and the one at q does not
+pub record Passes (p : ℕ → Bool) (text : List ℕ) (at q : ℕ) : Type 0 where
+  pub forward : at ≤ q
+  pub inside : q ≤ length text
+  pub each : (i : ℕ) → at ≤ i → i < q → p (byte_at text i) ≡ true
+  pub ends : q < length text → p (byte_at text q) ≡ false
 
 -- gaps from `at` to q
 pub record Gaps (text : List ℕ) (at q : ℕ) : Type 0 where
@@ -25,10 +30,6 @@ pub record Skips (text : List ℕ) (at q : ℕ) : Type 0 where
 -- this byte stands there
 abbrev pub is_at : List ℕ → ℕ → ℕ → Bool
 is_at text at b = ltb at (length text) && eqb (byte_at text at) b
-
--- a digit stands there
-abbrev pub is_digit_at : List ℕ → ℕ → Bool
-is_digit_at text at = ltb at (length text) && is_digit (byte_at text at)
 
 -- a variable below k stands there
 abbrev pub is_letter : ℕ → List ℕ → ℕ → Bool
@@ -56,10 +57,6 @@ pub record Spelt (text : List ℕ) (at : ℕ) (w : List ℕ) (q : ℕ) : Type 0 
   pub inside : q ≤ length text
   pub all : Letters text at w (length w)
 
--- the word stands from `at` to q; or it breaks at j
-abbrev pub SpeltCases : List ℕ → ℕ → List ℕ → Step → Type 0
-SpeltCases text at w (To q) = Spelt text at w q
-SpeltCases text at w (Stuck j) = Broken text at w j
-
-pub record SpeltAt (text : List ℕ) (at : ℕ) (w : List ℕ) (r : Step) : Type 0 where
-  pub says : SpeltCases text at w r
+-- the word stands from `at` to the place answered; or it breaks at the one where the text stops
+pub record SpeltAt (text : List ℕ) (at : ℕ) (w : List ℕ) (r : Result ℕ Stopped) : Type 0 where
+  pub says : MatchResult r (Spelt text at w) (λ s. Broken text at w s.at)

@@ -1,19 +1,68 @@
-// Guards: each level reads operands of the next, down to brackets, inside which stands a whole guard again.
-ghost use Rattle.std.specs.Prelude.{◌≡◌, true, false, ◌+◌, ◌*◌, ◌≤◌, ◌<◌, length};
+// Guards: operands joined by operators, the stronger ones first, down to brackets, inside which stands a whole guard again.
+ghost use Rattle.std.specs.Prelude.{◌≡◌, true, false, suc, ◌+◌, ◌*◌, ◌≤◌, ◌<◌, length, MatchOption, MatchResult};
 ghost use Rattle.texts.specs.Putting.{Puts};
-ghost use Rattle.grammar.specs.Records.{expression_record};
-ghost use Rattle.phrases.specs.Places.{is_at, is_letter};
+ghost use Rattle.grammar.specs.Items.{SIGN, mark_byte};
+ghost use Rattle.grammar.specs.Guards.{strength};
+ghost use Rattle.grammar.specs.Records.{expression_record, op_of};
+ghost use Rattle.phrases.specs.Places.{is_at};
+ghost use Rattle.phrases.specs.Operators.{operator_of};
+ghost use Rattle.phrases.specs.Operands.{OperandHere, NoOperand};
 ghost use Rattle.phrases.specs.GuardsRead.{GuardAt, GuardAsked};
 
-use crate::items::{is_at, skip};
-use blocks::numbers::byte_at;
+use crate::items::{Stopped, is_at, skip};
 use texts::put_text;
 
-// The place after the guard and the count of expressions then; or the place where the text stops.
-#[derive(Clone, Copy)]
-pub enum GuardRead {
-    Read { at: usize, e: usize },
-    Stopped(usize),
+// The place after the guard, and the count of expressions then.
+#[derive(Clone, Copy, Debug, PartialEq, Eq)]
+pub struct GuardEnd {
+    pub at: usize,
+    pub expressions: usize,
+}
+
+#[derive(Clone, Copy, Debug, PartialEq, Eq)]
+pub enum Operator {
+    Or,
+    Xor,
+    And,
+}
+
+impl Operator {
+    fn sign(self) -> u8
+        ensures { result ≡ mark_byte (SIGN (operator_of self)) }
+    {
+        match self {
+            Operator::Or => b'|',
+            Operator::Xor => b'^',
+            Operator::And => b'&',
+        }
+    }
+
+    // Its operation in a record.
+    fn operation(self) -> u8
+        ensures { result ≡ op_of (operator_of self) }
+    {
+        match self {
+            Operator::Or => 5,
+            Operator::Xor => 6,
+            Operator::And => 4,
+        }
+    }
+
+    fn next_stronger(self) -> Option<Operator>
+        ensures { MatchOption result (strength (operator_of self) ≡ 3) (λ next. strength (operator_of next) ≡ suc (strength (operator_of self))) }
+    {
+        match self {
+            Operator::Or => Some(Operator::Xor),
+            Operator::Xor => Some(Operator::And),
+            Operator::And => None,
+        }
+    }
+}
+
+#[derive(Clone, Copy, Debug, PartialEq, Eq)]
+pub enum Operand {
+    Constant(u8),
+    Variable(u8),
 }
 
 const EXPRESSIONS: usize = 504;
@@ -38,50 +87,17 @@ fn put_expression(es: &mut [u8], e: usize, op: u8, a: usize, b: usize)
     put_text(&record, es, 8 * e);
 }
 
-// operand ('|' operand)*
-#[cycle(levels)]
-pub fn either(
-    text: &[u8],
-    at: usize,
-    k: usize,
-    depth: usize,
-    e: usize,
-    pending: usize,
-    es: &mut [u8],
-) -> GuardRead
-    requires { GuardAsked k depth e pending at text.now es.old }
-    ensures { GuardAt 1 k depth e pending at text.now es.old es.new result }
+// A whole guard.
+pub fn guard(text: &[u8], at: usize, k: usize, e: usize, es: &mut [u8]) -> Result<GuardEnd, Stopped>
+    requires { GuardAsked k 0 e 0 at text.now es.old }
+    ensures { GuardAt 1 k 0 e 0 at text.now es.old es.new result }
 {
-    let first = differing(text, at, k, depth, e, pending, es);
-    let mut q = at;
-    let mut f = e;
-    match first {
-        GuardRead::Stopped(j) => return GuardRead::Stopped(j),
-        GuardRead::Read { at: end, e: upto } => {
-            q = end;
-            f = upto;
-        }
-    }
-    while is_at(text, q, b'|') {
-        if f + pending + 2 > EXPRESSIONS {
-            return GuardRead::Stopped(q);
-        }
-        let right = differing(text, skip(text, q + 1), k, depth, f, pending + 1, es);
-        match right {
-            GuardRead::Stopped(j) => return GuardRead::Stopped(j),
-            GuardRead::Read { at: end, e: upto } => {
-                put_expression(es, upto, 5, f - 1, upto - 1);
-                q = end;
-                f = upto + 1;
-            }
-        }
-    }
-    GuardRead::Read { at: q, e: f }
+    joined(text, at, k, 0, e, 0, es, Operator::Or)
 }
 
-// operand ('^' operand)*
+// side (operator side)*
 #[cycle(levels)]
-fn differing(
+fn joined(
     text: &[u8],
     at: usize,
     k: usize,
@@ -89,40 +105,45 @@ fn differing(
     e: usize,
     pending: usize,
     es: &mut [u8],
-) -> GuardRead
+    operator: Operator,
+) -> Result<GuardEnd, Stopped>
     requires { GuardAsked k depth e pending at text.now es.old }
-    ensures { GuardAt 2 k depth e pending at text.now es.old es.new result }
+    ensures { GuardAt (strength (operator_of operator)) k depth e pending at text.now es.old es.new result }
 {
-    let first = both(text, at, k, depth, e, pending, es);
-    let mut q = at;
-    let mut f = e;
-    match first {
-        GuardRead::Stopped(j) => return GuardRead::Stopped(j),
-        GuardRead::Read { at: end, e: upto } => {
-            q = end;
-            f = upto;
+    let mut left = side(text, at, k, depth, e, pending, es, operator)?;
+    while is_at(text, left.at, operator.sign()) {
+        if left.expressions + pending + 2 > EXPRESSIONS {
+            return Err(Stopped { at: left.at });
         }
+        let from = skip(text, left.at + 1);
+        let right = side(
+            text,
+            from,
+            k,
+            depth,
+            left.expressions,
+            pending + 1,
+            es,
+            operator,
+        )?;
+        put_expression(
+            es,
+            right.expressions,
+            operator.operation(),
+            left.expressions - 1,
+            right.expressions - 1,
+        );
+        left = GuardEnd {
+            at: right.at,
+            expressions: right.expressions + 1,
+        };
     }
-    while is_at(text, q, b'^') {
-        if f + pending + 2 > EXPRESSIONS {
-            return GuardRead::Stopped(q);
-        }
-        let right = both(text, skip(text, q + 1), k, depth, f, pending + 1, es);
-        match right {
-            GuardRead::Stopped(j) => return GuardRead::Stopped(j),
-            GuardRead::Read { at: end, e: upto } => {
-                put_expression(es, upto, 6, f - 1, upto - 1);
-                q = end;
-                f = upto + 1;
-            }
-        }
-    }
-    GuardRead::Read { at: q, e: f }
+    Ok(left)
 }
 
-// operand ('&' operand)*
+// What the operator joins: what the next stronger one has joined, or a single operand.
 #[cycle(levels)]
-fn both(
+fn side(
     text: &[u8],
     at: usize,
     k: usize,
@@ -130,35 +151,15 @@ fn both(
     e: usize,
     pending: usize,
     es: &mut [u8],
-) -> GuardRead
+    operator: Operator,
+) -> Result<GuardEnd, Stopped>
     requires { GuardAsked k depth e pending at text.now es.old }
-    ensures { GuardAt 3 k depth e pending at text.now es.old es.new result }
+    ensures { GuardAt (suc (strength (operator_of operator))) k depth e pending at text.now es.old es.new result }
 {
-    let first = single(text, at, k, depth, e, pending, es);
-    let mut q = at;
-    let mut f = e;
-    match first {
-        GuardRead::Stopped(j) => return GuardRead::Stopped(j),
-        GuardRead::Read { at: end, e: upto } => {
-            q = end;
-            f = upto;
-        }
+    match operator.next_stronger() {
+        Some(stronger) => joined(text, at, k, depth, e, pending, es, stronger),
+        None => single(text, at, k, depth, e, pending, es),
     }
-    while is_at(text, q, b'&') {
-        if f + pending + 2 > EXPRESSIONS {
-            return GuardRead::Stopped(q);
-        }
-        let right = single(text, skip(text, q + 1), k, depth, f, pending + 1, es);
-        match right {
-            GuardRead::Stopped(j) => return GuardRead::Stopped(j),
-            GuardRead::Read { at: end, e: upto } => {
-                put_expression(es, upto, 4, f - 1, upto - 1);
-                q = end;
-                f = upto + 1;
-            }
-        }
-    }
-    GuardRead::Read { at: q, e: f }
 }
 
 // '!' and what it negates, a group in brackets, a variable or a constant
@@ -171,7 +172,7 @@ fn single(
     e: usize,
     pending: usize,
     es: &mut [u8],
-) -> GuardRead
+) -> Result<GuardEnd, Stopped>
     requires { GuardAsked k depth e pending at text.now es.old }
     ensures { GuardAt 4 k depth e pending at text.now es.old es.new result }
 {
@@ -181,7 +182,7 @@ fn single(
     if is_at(text, at, b'(') {
         return grouped(text, at, k, depth, e, pending, es);
     }
-    operand(text, at, k, depth, e, pending, es)
+    plain(text, at, k, depth, e, pending, es)
 }
 
 // '!' stands at this place.
@@ -194,24 +195,19 @@ fn negated(
     e: usize,
     pending: usize,
     es: &mut [u8],
-) -> GuardRead
+) -> Result<GuardEnd, Stopped>
     requires { GuardAsked k depth e pending at text.now es.old × (is_at text.now at 33 ≡ true) }
     ensures { GuardAt 4 k depth e pending at text.now es.old es.new result }
 {
     if e + pending + 2 > EXPRESSIONS {
-        return GuardRead::Stopped(at);
+        return Err(Stopped { at });
     }
-    let inner = single(text, skip(text, at + 1), k, depth, e, pending + 1, es);
-    match inner {
-        GuardRead::Stopped(j) => GuardRead::Stopped(j),
-        GuardRead::Read { at: end, e: upto } => {
-            put_expression(es, upto, 3, upto - 1, 0);
-            GuardRead::Read {
-                at: end,
-                e: upto + 1,
-            }
-        }
-    }
+    let inner = single(text, skip(text, at + 1), k, depth, e, pending + 1, es)?;
+    put_expression(es, inner.expressions, 3, inner.expressions - 1, 0);
+    Ok(GuardEnd {
+        at: inner.at,
+        expressions: inner.expressions + 1,
+    })
 }
 
 // '(' stands at this place.
@@ -224,30 +220,26 @@ fn grouped(
     e: usize,
     pending: usize,
     es: &mut [u8],
-) -> GuardRead
+) -> Result<GuardEnd, Stopped>
     requires { GuardAsked k depth e pending at text.now es.old × (is_at text.now at 40 ≡ true) }
     ensures { GuardAt 4 k depth e pending at text.now es.old es.new result }
 {
     if depth >= DEPTH {
-        return GuardRead::Stopped(at);
+        return Err(Stopped { at });
     }
-    let inner = either(text, skip(text, at + 1), k, depth + 1, e, pending, es);
-    match inner {
-        GuardRead::Stopped(j) => GuardRead::Stopped(j),
-        GuardRead::Read { at: end, e: upto } => {
-            if !is_at(text, end, b')') {
-                return GuardRead::Stopped(end);
-            }
-            GuardRead::Read {
-                at: skip(text, end + 1),
-                e: upto,
-            }
-        }
+    let from = skip(text, at + 1);
+    let inner = joined(text, from, k, depth + 1, e, pending, es, Operator::Or)?;
+    if !is_at(text, inner.at, b')') {
+        return Err(Stopped { at: inner.at });
     }
+    Ok(GuardEnd {
+        at: skip(text, inner.at + 1),
+        expressions: inner.expressions,
+    })
 }
 
 // A variable or a constant, if one stands here.
-fn operand(
+fn plain(
     text: &[u8],
     at: usize,
     k: usize,
@@ -255,44 +247,28 @@ fn operand(
     e: usize,
     pending: usize,
     es: &mut [u8],
-) -> GuardRead
+) -> Result<GuardEnd, Stopped>
     requires { GuardAsked k depth e pending at text.now es.old × (is_at text.now at 33 ≡ false) × (is_at text.now at 40 ≡ false) }
     ensures { GuardAt 4 k depth e pending at text.now es.old es.new result }
 {
-    if is_at(text, at, b'0') {
-        put_expression(es, e, 0, 0, 0);
-        return GuardRead::Read {
-            at: skip(text, at + 1),
-            e: e + 1,
-        };
+    match operand_at(text, at, k)? {
+        Operand::Constant(v) => put_expression(es, e, v, 0, 0),
+        Operand::Variable(v) => put_expression(es, e, 2, usize::from(v), 0),
     }
-    if is_at(text, at, b'1') {
-        put_expression(es, e, 1, 0, 0);
-        return GuardRead::Read {
-            at: skip(text, at + 1),
-            e: e + 1,
-        };
-    }
-    if !is_letter(text, at, k) {
-        return GuardRead::Stopped(at);
-    }
-    put_expression(es, e, 2, byte_at(text, at) - 97, 0);
-    GuardRead::Read {
+    Ok(GuardEnd {
         at: skip(text, at + 1),
-        e: e + 1,
-    }
+        expressions: e + 1,
+    })
 }
 
-// A variable below k stands at this place.
-fn is_letter(text: &[u8], at: usize, k: usize) -> bool
-    ensures { result ≡ is_letter k text.now at }
+// The variable below k or the constant that stands here.
+fn operand_at(text: &[u8], at: usize, k: usize) -> Result<Operand, Stopped>
+    ensures { MatchResult result (OperandHere k text.now at) (λ s. (s.at ≡ at) × NoOperand k text.now at) }
 {
-    if at >= text.len() {
-        return false;
+    match text.get(at) {
+        Some(b'0') => Ok(Operand::Constant(0)),
+        Some(b'1') => Ok(Operand::Constant(1)),
+        Some(b) if *b >= b'a' && usize::from(*b - b'a') < k => Ok(Operand::Variable(*b - b'a')),
+        _ => Err(Stopped { at }),
     }
-    let b = byte_at(text, at);
-    if b < 97 {
-        return false;
-    }
-    b - 97 < k
 }

@@ -1,27 +1,27 @@
 // Gaps, words and numbers, each from a place on.
-ghost use Rattle.std.specs.Prelude.{◌≡◌, ◌≤◌, length};
+ghost use Rattle.std.specs.Prelude.{◌≡◌, ◌≤◌, length, take_while};
 ghost use Rattle.grammar.specs.Spelling.{is_gap};
-ghost use Rattle.phrases.specs.Places.{Skips, is_at, is_digit_at, SpeltAt};
+ghost use Rattle.grammar.specs.Bytewise.{is_digit};
+ghost use Rattle.phrases.specs.Places.{Passes, Skips, is_at, SpeltAt};
 
-use blocks::numbers::byte_at;
-
-// The place after what was read, or the one where the text stops.
-#[derive(Clone, Copy)]
-pub enum Step {
-    To(usize),
-    Stuck(usize),
+// The place where the text stops.
+#[derive(Clone, Copy, Debug, PartialEq, Eq)]
+pub struct Stopped {
+    pub at: usize,
 }
 
+#[tactic(auto, unfolding(grammar::specs::Spelling::is_gap))]
 fn is_gap(b: u8) -> bool
     ensures { result ≡ is_gap b }
 {
-    if b == 32 {
-        return true;
-    }
-    if b == 10 {
-        return true;
-    }
-    b == 13
+    matches!(b, b' ' | b'\n' | b'\r')
+}
+
+// How many gaps the text begins with.
+fn gaps(text: &[u8]) -> usize
+    ensures { result ≡ length (take_while is_gap text.now) }
+{
+    text.iter().take_while(|b| is_gap(**b)).count()
 }
 
 // The first place from `at` on that is no gap.
@@ -29,49 +29,39 @@ pub fn skip(text: &[u8], at: usize) -> usize
     requires { at ≤ length text.now }
     ensures { Skips text.now at result }
 {
-    let mut q = at;
-    while q < text.len() {
-        if !is_gap(text[q]) {
-            return q;
-        }
-        q += 1;
-    }
-    q
+    at + gaps(&text[at..])
 }
 
 pub fn is_at(text: &[u8], at: usize, b: u8) -> bool
     ensures { result ≡ is_at text.now at b }
 {
-    if at >= text.len() {
-        return false;
-    }
-    text[at] == b
+    text.get(at) == Some(&b)
 }
 
-// The letters of a word, one by one.
-pub fn spell(text: &[u8], at: usize, letters: &[u8]) -> Step
+// The place after the word, whose letters stand one by one.
+pub fn spell(text: &[u8], at: usize, word: &[u8]) -> Result<usize, Stopped>
     requires { at ≤ length text.now }
-    ensures { SpeltAt text.now at letters.now result }
+    ensures { SpeltAt text.now at word.now result }
 {
-    let mut i: usize = 0;
-    while i < letters.len() {
-        if !is_at(text, at + i, letters[i]) {
-            return Step::Stuck(at + i);
+    for (i, letter) in word.iter().enumerate() {
+        if !is_at(text, at + i, *letter) {
+            return Err(Stopped { at: at + i });
         }
-        i += 1;
     }
-    Step::To(at + i)
+    Ok(at + word.len())
 }
 
-pub fn is_digit(text: &[u8], at: usize) -> bool
-    ensures { result ≡ is_digit_at text.now at }
+// How many digits the text begins with.
+fn digits(text: &[u8]) -> usize
+    ensures { result ≡ length (take_while is_digit text.now) }
 {
-    if at >= text.len() {
-        return false;
-    }
-    let b = byte_at(text, at);
-    if b < 48 {
-        return false;
-    }
-    b < 58
+    text.iter().take_while(|b| b.is_ascii_digit()).count()
+}
+
+// The first place from `at` on that is no digit.
+pub fn after_digits(text: &[u8], at: usize) -> usize
+    requires { at ≤ length text.now }
+    ensures { Passes is_digit text.now at result }
+{
+    at + digits(&text[at..])
 }

@@ -1,36 +1,82 @@
--- What unpacking into enough room answers is what reading answers; and records decoded from a longer list are the same records.
+-- An accepted job's lists, decoded where they stand, are the job that its bytes mean, and every reference in them is within bounds.
 -- Assumes nothing.
-use Rattle.std.specs.Prelude.{Result, Ok, Err}
-use mathlib.Core.Path.{◌≡◌, refl, sym, ◌∙◌, ap, subst}
-use mathlib.Core.Logic.{◌⊎◌, inl, inr}
-use mathlib.Core.Bool.{true}
-use mathlib.Core.List.{List, [], ◌∷◌, ◌++◌}
-use Prim.Native.Nat.{ℕ, zero, suc, ◌+◌, ◌*◌, ◌≤◌, ◌<◌}
-use native.Mathlib.Omega.{arith}
-use borrow.Author.Tests.{le-leb}
-use lib.ListN.{length, drop, replicate, length-append, get_or-append}
-use Rattle.scans.specs.Refusals.{whole, in_order}
+use Rattle.std.proofs.Common.{◌≡◌, refl, sym, ◌∙◌, ap, subst, Bool, true, false, ◌&&◌, ltb, ℕ, zero, suc, ◌+◌, ◌*◌, ◌≤◌, ◌<◌, List, [], ◌∷◌, length, slice_index_or, arith}
+use mathlib.Core.Path.{fun_ext}
+use native.Mathlib.Decide.{dec_lt}
+use borrow.Author.Tests.{lt-ltb}
+use lib.ListN.{get_or, get_or-eq_default}
+use Rattle.meaning.specs.declared.Node.{Node}
+use Rattle.meaning.specs.declared.Expression.{Expression}
+use Rattle.meaning.specs.declared.Expression.TheVariants.{False, True, Variable, Not, And, Or, Xor}
+use Rattle.meaning.specs.declared.Clause.{Clause}
 use Rattle.scans.specs.Lists.{list_of}
-use Rattle.scans.proofs.Lists.{length_list_of}
-use Rattle.scans.proofs.Exactly.{in_order_append, skip_whole}
-use Rattle.meaning.specs.Stated.{Stated}
+use Rattle.scans.proofs.Lists.{length_list_of, list_of_past}
 use Rattle.stored.specs.declared.Size.{Size}
-use Rattle.stored.specs.declared.Refusal.{Refusal}
-use Rattle.stored.specs.Bytes.{byte_at, Bytes}
-use Rattle.stored.specs.Layout.{sizes_of, header_sizes, records_of}
-use Rattle.stored.specs.Reading.{read_stages, refused, accepted_as, read_answer, room_ok, unpack_answer, lent, stated_read}
-use Rattle.stored.specs.Broken.{blocks_in, Limits}
-use Rattle.stored.specs.Decoding.{job_of}
-use Rattle.stored.specs.Operations.{Unpacks}
-use Rattle.stored.proofs.Accepted.{refused_done, accepted_sizes, read_bytes}
-use Rattle.stored.proofs.Parts.{Lengths}
+use Rattle.stored.specs.Bytes.{byte_at, u16_at}
+use Rattle.stored.specs.Layout.{Records, sizes_of, first_expressions, first_clauses, header_sizes, record_byte, records_of}
+use Rattle.stored.specs.Reading.{accepted_as, read_answer}
+use Rattle.stored.specs.Broken.{Limits, ExpressionRule}
+use Rattle.stored.specs.Decoding.{node_at, expression_at, clause_at, job_of}
+use Rattle.stored.proofs.Accepted.{accepted_sizes}
 use Rattle.stored.proofs.Promise.{Promise, accepted_promise}
-use Rattle.decoded.specs.Fields.{record_word, job_from, Decoded}
-use Rattle.decoded.proofs.Decoding.{Holds, decoded_holds, job_same, decoded}
-use Rattle.verdicts.proofs.Tables.{own_or_next}
-use Rattle.ready.specs.Readied.{Ready, Readied}
+use Rattle.blocks.specs.Narrow.{Narrow}
+use Rattle.decoded.specs.Records.{ByEightBytes}
+use Rattle.decoded.specs.RecordLaws.{node_by_eight, expression_by_eight, clause_by_eight}
+use Rattle.decoded.specs.Plans.{no_node, no_clause, node_of, expression_of, clause_of, job_from, names_earlier, Decoded}
 
--- what an accepted job promises, by the sizes that were answered
+-- an expression that keeps its rule names a variable, or earlier expressions
+module _ (k i : ℕ) (s : List ℕ) (at : ℕ) (rule : ExpressionRule k i s at) where
+  abbrev a : ℕ
+  a = u16_at s (at + 2)
+
+  abbrev b : ℕ
+  b = u16_at s (at + 4)
+
+  first : 3 ≤ byte_at s at → ltb a i ≡ true
+  first h = lt-ltb a i (rule.first h)
+
+  both : 4 ≤ byte_at s at → (ltb a i && ltb b i) ≡ true
+  both h = rw (lt-ltb a i (rule.first (omega arith)), lt-ltb b i (rule.second h))
+
+  named_by : (op : ℕ) → byte_at s at ≡ op → names_earlier k i (get_or (False ∷ True ∷ Variable a ∷ Not a ∷ And a b ∷ Or a b ∷ Xor a b ∷ []) op False) ≡ true
+  named_by zero e = refl
+  named_by (suc zero) e = refl
+  named_by (suc (suc zero)) e = lt-ltb a k (rule.variable e)
+  named_by (suc (suc (suc zero))) e = first (omega arith)
+  named_by (suc (suc (suc (suc zero)))) e = both (omega arith)
+  named_by (suc (suc (suc (suc (suc zero))))) e = both (omega arith)
+  named_by (suc (suc (suc (suc (suc (suc zero)))))) e = both (omega arith)
+  named_by (suc (suc (suc (suc (suc (suc (suc n))))))) e = refl
+
+  named : names_earlier k i (expression_at s at) ≡ true
+  unfolding expression_at
+  named = named_by (byte_at s at) refl
+
+-- a list of as many values as there is room, decoded from records: past the records too, where both have zeros
+held : {A : Type 0} {value_at : List ℕ → ℕ → A} (none : A) → ByEightBytes value_at → value_at [] 0 ≡ none
+    → (f : ℕ → ℕ) (count room : ℕ) (values : List A) → count ≤ room → length values ≡ room
+    → ((i : ℕ) (d : A) → i < room → slice_index_or values i d ≡ value_at (list_of f (8 * count)) (8 * i))
+    → (i : ℕ) → slice_index_or values i none ≡ value_at (list_of f (8 * count)) (8 * i)
+held {value_at = value_at} none by_eight empty f count room values few long each i = go (dec_lt i room)
+  where
+    go : Dec (i < room) → slice_index_or values i none ≡ value_at (list_of f (8 * count)) (8 * i)
+    go (yes h) = each i none h
+    go (no h) =
+        get_or-eq_default values none (omega arith) ∙ sym empty
+        ∙ by_eight [] (list_of f (8 * count)) 0 (8 * i) (λ o l. sym (list_of_past f (8 * count) (8 * i + o) (omega arith)))
+
+no_node_is : node_at [] 0 ≡ no_node
+unfolding node_at
+no_node_is = refl
+
+no_expression_is : expression_at [] 0 ≡ False
+unfolding expression_at
+no_expression_is = refl
+
+no_clause_is : clause_at [] 0 ≡ no_clause
+unfolding clause_at
+no_clause_is = refl
+
 module _ (s : List ℕ) (z : Size) (e : read_answer s ≡ accepted_as z) where
   sizes_are : sizes_of (records_of s) ≡ z
   sizes_are = (accepted_promise s z e).2
@@ -41,100 +87,80 @@ module _ (s : List ℕ) (z : Size) (e : read_answer s ≡ accepted_as z) where
   limits : Limits z
   limits = subst Limits sizes_are promise.limits
 
-  lengths : Lengths (records_of s) z
-  lengths = subst (Lengths (records_of s)) sizes_are promise.lengths
+  pub narrow : Narrow z
+  narrow = let l = limits in record { n = omega (arith, l.n_most); e = omega (arith, l.e_most); c = omega (arith, l.c_most) }
 
-  -- the lists of the largest job have room for any
-  room_enough : room_ok (header_sizes s) 8064 4032 4032 ≡ true
-  room_enough =
-      let l = limits in
-      let h = accepted_sizes s z e in
-      subst (λ y. room_ok y 8064 4032 4032 ≡ true) h (rw (le-leb (8 * z.n) 8064 (omega (arith, l.n_most)), le-leb (8 * z.e) 4032 (omega (arith, l.e_most)), le-leb (8 * z.c) 4032 (omega (arith, l.c_most))))
+  header_is : header_sizes s ≡ z
+  header_is = sym (accepted_sizes s z e)
 
--- so unpacking into them answers what reading answers
-unpack_reads : (s : List ℕ) → unpack_answer s 8064 4032 4032 ≡ read_answer s
-unfolding read_answer unpack_answer in_order
-unpack_reads s = go (own_or_next refused (read_stages s (blocks_in s)) (accepted_as (header_sizes s)) (sym (in_order_append refused (read_stages s (blocks_in s)) (whole 13 (room_ok (header_sizes s) 8064 4032 4032) ∷ []) (accepted_as (header_sizes s)))))
-  where
-    go : (read_answer s ≡ unpack_answer s 8064 4032 4032) ⊎ ((read_answer s ≡ accepted_as (header_sizes s)) × (in_order refused (whole 13 (room_ok (header_sizes s) 8064 4032 4032) ∷ []) (accepted_as (header_sizes s)) ≡ unpack_answer s 8064 4032 4032)) → unpack_answer s 8064 4032 4032 ≡ read_answer s
-    go (inl e) = sym e
-    go (inr (e, f)) = sym f ∙ skip_whole refused 13 (room_ok (header_sizes s) 8064 4032 4032) [] (accepted_as (header_sizes s)) (room_enough s (header_sizes s) e) ∙ sym e
+  nodes_are : (records_of s).nodes ≡ list_of (record_byte s 1) (8 * z.n)
+  unfolding records_of
+  nodes_are = ap (λ (y : Size). list_of (record_byte s 1) (8 * y.n)) header_is
 
--- a record of a list that goes on is the record
-word_front : (s rest : List ℕ) (m i : ℕ) → length s ≡ 8 * m → i < m → record_word (s ++ rest) i ≡ record_word s i
-unfolding record_word
-word_front s rest m i l h =
-    let b : (o : ℕ) → o < 8 * m → byte_at (s ++ rest) o ≡ byte_at s o = λ o k. get_or-append s rest 0 o (omega arith) in
-    omega (arith, b (8 * i) (omega arith), b (8 * i + 1) (omega arith), b (8 * i + 2) (omega arith), b (8 * i + 2 + 1) (omega arith), b (8 * i + 4) (omega arith), b (8 * i + 4 + 1) (omega arith), b (8 * i + 6) (omega arith), b (8 * i + 6 + 1) (omega arith))
+  expressions_are : (records_of s).expressions ≡ list_of (record_byte s (first_expressions z)) (8 * z.e)
+  unfolding records_of
+  expressions_are = ap (λ (y : Size). list_of (record_byte s (first_expressions y)) (8 * y.e)) header_is
 
-list_of_same : (f g : ℕ → ℕ) (n : ℕ) → ((i : ℕ) → i < n → f i ≡ g i) → list_of f n ≡ list_of g n
-unfolding list_of
-list_of_same f g zero h = refl
-list_of_same f g (suc n) h = rw (list_of_same f g n (λ i l. h i (omega arith)), h n (omega arith))
+  clauses_are : (records_of s).clauses ≡ list_of (record_byte s (first_clauses z)) (8 * z.c)
+  unfolding records_of
+  clauses_are = ap (λ (y : Size). list_of (record_byte s (first_clauses y)) (8 * y.c)) header_is
 
--- one list of records: unpacked, and decoded into zeros
-module _ (records before : List ℕ) (z : Size) (m room : ℕ) (long : length records ≡ 8 * m) (fits : m ≤ room) where
-  part_holds : {a : Stated} {after words : List ℕ} → a ≡ accepted_as z → after ≡ lent a records before → words ≡ list_of (record_word after) m ++ drop m (replicate room 0) → Holds records words
-  unfolding lent
-  part_holds {a} {words = words} e p q =
-      let lent_is : lent a records before ≡ records ++ drop (length records) before = rw e in
-      let after_is = p ∙ lent_is in
-      decoded_holds records m room words long fits
-      (q ∙ ap (λ l. l ++ drop m (replicate room 0)) (ap (λ s. list_of (record_word s) m) after_is ∙ list_of_same _ _ m (λ i l. word_front records (drop (length records) before) m i long l)))
+  k_is : z.k ≡ (records_of s).k
+  unfolding records_of
+  k_is = sym (ap (λ (y : Size). y.k) header_is)
 
--- the whole job, with what the calls gave
-module _ {job ns es cs ns' es' cs' : List ℕ} {r : Result Size Refusal} (u : Unpacks job ns es cs ns' es' cs' r) (bytes : Bytes job)
-    (ln : length ns ≡ 8064) (le : length es ≡ 4032) (lc : length cs ≡ 4032) where
-  pub read_is : stated_read r ≡ read_answer job
-  read_is = u.answer ∙ rw (ln, le, lc) (unpack_reads job)
+  module _ (nodes : List Node) (expressions : List Expression) (clauses : List Clause) (e1 c1 : ℕ)
+      (pe : e1 ≡ first_expressions z) (pc : c1 ≡ first_clauses z)
+      (ln : length nodes ≡ 1008) (le : length expressions ≡ 504) (lc : length clauses ≡ 504)
+      (ns : (i : ℕ) (d : Node) → i < 1008 → slice_index_or nodes i d ≡ node_at (list_of (record_byte s 1) (8 * z.n)) (8 * i))
+      (es : (i : ℕ) (d : Expression) → i < 504 → slice_index_or expressions i d ≡ expression_at (list_of (record_byte s e1) (8 * z.e)) (8 * i))
+      (cs : (i : ℕ) (d : Clause) → i < 504 → slice_index_or clauses i d ≡ clause_at (list_of (record_byte s c1) (8 * z.c)) (8 * i)) where
+    node_is : (i : ℕ) → node_of nodes i ≡ node_at (records_of s).nodes (8 * i)
+    node_is i = held no_node node_by_eight no_node_is (record_byte s 1) z.n 1008 nodes limits.n_most ln ns i ∙ ap (λ l. node_at l (8 * i)) (sym nodes_are)
 
-  module _ {z : Size} (accepts : r ≡ Ok z) where
-    pub accepts_is : read_answer job ≡ accepted_as z
-    accepts_is = sym read_is ∙ ap stated_read accepts
+    expression_is : (i : ℕ) → expression_of expressions i ≡ expression_at (records_of s).expressions (8 * i)
+    expression_is i =
+        held False expression_by_eight no_expression_is (record_byte s e1) z.e 504 expressions limits.e_most le es i
+        ∙ ap (λ f. expression_at (list_of (record_byte s f) (8 * z.e)) (8 * i)) pe ∙ ap (λ l. expression_at l (8 * i)) (sym expressions_are)
 
-    pub small : Limits z
-    small = limits job z accepts_is
+    clause_is : (i : ℕ) → clause_of clauses i ≡ clause_at (records_of s).clauses (8 * i)
+    clause_is i =
+        held no_clause clause_by_eight no_clause_is (record_byte s c1) z.c 504 clauses limits.c_most lc cs i
+        ∙ ap (λ f. clause_at (list_of (record_byte s f) (8 * z.c)) (8 * i)) pc ∙ ap (λ l. clause_at l (8 * i)) (sym clauses_are)
 
-    module _ {n₀ e₀ c₀ nodes expressions clauses : List ℕ} (zn : n₀ ≡ replicate 1008 0) (ze : e₀ ≡ replicate 504 0) (zc : c₀ ≡ replicate 504 0)
-        (dn : nodes ≡ list_of (record_word ns') z.n ++ drop z.n n₀) (de : expressions ≡ list_of (record_word es') z.e ++ drop z.e e₀)
-        (dc : clauses ≡ list_of (record_word cs') z.c ++ drop z.c c₀) where
-      answer_is : unpack_answer job (length ns) (length es) (length cs) ≡ accepted_as z
-      answer_is = sym u.answer ∙ ap stated_read accepts
+    -- the lists are the job
+    pub means_is : job_from z nodes expressions clauses ≡ job_of (records_of s)
+    unfolding job_of
+    means_is =
+        let p = fun_ext node_is in
+        let q = fun_ext expression_is in
+        let r = fun_ext clause_is in
+        let n : z.n ≡ (sizes_of (records_of s)).n = sym (ap (λ (y : Size). y.n) sizes_are) in
+        let c : z.c ≡ (sizes_of (records_of s)).c = sym (ap (λ (y : Size). y.c) sizes_are) in
+        λ i. record { variables = k_is i; netlist = record { size = n i; node = p i }; expressions = q i; count = c i; clause = r i }
 
-      long : Lengths (records_of job) z
-      long = lengths job z accepts_is
+    below : {x : ℕ} → x < (sizes_of (records_of s)).n → x < z.n
+    below {x} h = subst (λ y. x < y.n) sizes_are h
 
-      from : (l : List ℕ) (m : ℕ) {w before zeros : List ℕ} → w ≡ list_of (record_word l) m ++ drop m before → before ≡ zeros → w ≡ list_of (record_word l) m ++ drop m zeros
-      from l m e f = e ∙ ap (λ b. list_of (record_word l) m ++ drop m b) f
-
-      hn : Holds (records_of job).nodes nodes
-      hn = part_holds (records_of job).nodes ns z z.n 1008 long.nodes small.n_most answer_is u.nodes_are (from ns' z.n dn zn)
-
-      he : Holds (records_of job).expressions expressions
-      he = part_holds (records_of job).expressions es z z.e 504 long.expressions small.e_most answer_is u.expressions_are (from es' z.e de ze)
-
-      hc : Holds (records_of job).clauses clauses
-      hc = part_holds (records_of job).clauses cs z z.c 504 long.clauses small.c_most answer_is u.clauses_are (from cs' z.c dc zc)
-
-      room : (l : List ℕ) {w : List ℕ} (m n : ℕ) → w ≡ list_of (record_word l) m ++ drop m (replicate n 0) → m ≤ n → m ≤ length w
-      room l m n e h = omega (arith, ap length e, length-append (list_of (record_word l) m) (drop m (replicate n 0)), length_list_of (record_word l) m)
-
-      pub means_is : job_from z.k z.n nodes expressions z.c clauses ≡ job_of (records_of job)
-      means_is =
-          subst (λ y. job_from y.k y.n nodes expressions y.c clauses ≡ job_of (records_of job)) (sizes_are job z accepts_is)
-          (job_same (records_of job) (read_bytes job bytes) nodes expressions clauses hn he hc)
-
-      pub decoded_is : Decoded z.k z.n z.e z.c nodes expressions clauses
-      decoded_is =
-          let s = sizes_are job z accepts_is in
-          subst (λ y. Decoded y.k y.n y.e y.c nodes expressions clauses) s
-          (decoded (records_of job) (read_bytes job bytes) nodes expressions clauses hn he hc (promise job z accepts_is)
-          (subst (λ y. y.n ≤ length nodes) (sym s) (room ns' z.n 1008 (from ns' z.n dn zn) small.n_most)) (subst (λ y. y.e ≤ length expressions) (sym s) (room es' z.e 504 (from es' z.e de ze) small.e_most)) (subst (λ y. y.c ≤ length clauses) (sym s) (room cs' z.c 504 (from cs' z.c dc zc) small.c_most)))
-
--- the two answers
-module _ {job nodes expressions clauses heads nexts : List ℕ} where
-  pub ready_refused : {x : Refusal} → stated_read (Err x) ≡ read_answer job → Readied job nodes expressions clauses heads nexts (Err x)
-  ready_refused {x} e = record { answer = e; lists = λ z q. absurd (refused_done x.number x.block x.«record» (ap stated_read q)) }
-
-  pub ready_accepted : {z : Size} → stated_read (Ok z) ≡ read_answer job → Ready job z nodes expressions clauses heads nexts → Readied job nodes expressions clauses heads nexts (Ok z)
-  ready_accepted {z} e r = record { answer = e; lists = λ y q. let same : z ≡ y = cc in subst (λ z. Ready job z nodes expressions clauses heads nexts) same r }
+    -- and they can be indexed by what stands in them
+    pub decoded_is : Decoded z nodes expressions clauses
+    unfolding node_at clause_at
+    decoded_is =
+        let l = limits in
+        record {
+          k_most = l.k_most;
+          n_least = l.n_least;
+          n_most = l.n_most;
+          e_most = l.e_most;
+          c_most = l.c_most;
+          nodes_long = omega (arith, l.n_most);
+          expressions_long = omega (arith, l.e_most);
+          clauses_long = omega (arith, l.c_most);
+          node = λ i h.
+              let q = promise.node i (subst (λ y. i < y.n) (sym sizes_are) h) in
+              rw (node_is i) (record { p = below q.p; q = below q.q; r = below q.r });
+          expression = λ i h. rw (expression_is i, k_is) (named _ i _ _ (promise.expression i (subst (λ y. i < y.e) (sym sizes_are) h)));
+          clause = λ i h.
+              let q = promise.clause i (subst (λ y. i < y.c) (sym sizes_are) h) in
+              rw (clause_is i) (record { node = below q.node; time = omega (arith, q.time); guard = subst (λ y. u16_at (records_of s).clauses (8 * i + 6) < y.e) sizes_are q.guard });
+        }

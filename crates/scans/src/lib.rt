@@ -1,2 +1,19 @@
-// Searches, refusals in their order, lists by place: definitions and laws only.
+// Searches, refusals in their order, lists by place: definitions and their laws, and the search that the crates share.
 #![tactic(auto)]
+
+ghost use Rattle.std.specs.Prelude.{◌≡◌, ℕ, ◌<◌, Bool};
+ghost use Rattle.scans.specs.First.{first_bad};
+
+// The first index below `count` that fails the test.
+pub fn first_bad<F: Fn(usize) -> bool>(count: usize, test: F) -> Option<usize>
+    requires { (i : ℕ) → i < count → F.pre test i }
+    ensures { (f : ℕ → Bool) → ((i : ℕ) (r : Bool) → i < count → F.post test i r → r ≡ f i)
+        → result ≡ first_bad f count }
+{
+    for i in 0..count {
+        if !test(i) {
+            return Some(i);
+        }
+    }
+    None
+}

@@ -4,11 +4,12 @@ use Rattle.std.specs.Prelude.{Result, Ok, Err}
 use mathlib.Core.Path.{◌≡◌, sym, ◌∙◌}
 use mathlib.Core.List.{List, [], ◌∷◌}
 use Prim.Native.Nat.{ℕ}
+use Rattle.meaning.specs.Stated.{Stated}
 use Rattle.stored.specs.declared.Size.{Size}
 use Rattle.stored.specs.declared.Refusal.{Refusal}
 use Rattle.stored.specs.Layout.{Records}
-use Rattle.stored.specs.Reading.{refused, accepted_as, read_answer, stated_read}
-use Rattle.stored.specs.Packing.{stated_packed}
+use Rattle.stored.specs.Reading.{refused, accepted_as, read_answer, stated_by, stated_read}
+use Rattle.stored.specs.Packing.{written, stated_packed}
 use Rattle.stored.specs.Operations.{Unpacks, Packs}
 use Rattle.stored.proofs.Accepted.{refused_done}
 
@@ -29,18 +30,22 @@ size_same x y e =
     let c : x.c ≡ y.c = cc in
     λ i. record { k = k i; n = n i; e = f i; c = c i }
 
--- two answers that are stated alike are one
+-- two answers that are stated alike are one, where each value's statement is its own and no refusal's
+module _ {A : Type 0} (stated : A → Stated) (apart : (x y : A) → stated x ≡ stated y → x ≡ y) (never : (x : A) (m b l : ℕ) → refused m b l ≡ stated x → ⊥) where
+  pub stated_injective : (a b : Result A Refusal) → stated_by stated a ≡ stated_by stated b → a ≡ b
+  stated_injective (Ok x) (Ok y) e = cc (apart x y e)
+  stated_injective (Ok x) (Err y) e = absurd (never x _ _ _ (sym e))
+  stated_injective (Err x) (Ok y) e = absurd (never y _ _ _ e)
+  stated_injective (Err x) (Err y) e = cc (refusal_same x y e)
+
 pub read_injective : (a b : Result Size Refusal) → stated_read a ≡ stated_read b → a ≡ b
-read_injective (Ok x) (Ok y) e = cc (size_same x y e)
-read_injective (Ok x) (Err y) e = absurd (refused_done y.number y.block y.«record» (sym e))
-read_injective (Err x) (Ok y) e = absurd (refused_done x.number x.block x.«record» e)
-read_injective (Err x) (Err y) e = cc (refusal_same x y e)
+read_injective = stated_injective accepted_as size_same (λ x m b l. refused_done m b l)
+
+pub written_same : (x y : ℕ) → written x ≡ written y → x ≡ y
+written_same x y e = let ns : x ∷ [] ≡ y ∷ [] = λ i. (e i).numbers in cc
 
 pub packed_injective : (a b : Result ℕ Refusal) → stated_packed a ≡ stated_packed b → a ≡ b
-packed_injective (Ok x) (Ok y) e = let ns : x ∷ [] ≡ y ∷ [] = λ i. (e i).numbers in cc
-packed_injective (Ok x) (Err y) e = absurd (refused_done y.number y.block y.«record» (sym e))
-packed_injective (Err x) (Ok y) e = absurd (refused_done x.number x.block x.«record» e)
-packed_injective (Err x) (Err y) e = cc (refusal_same x y e)
+packed_injective = stated_injective written written_same (λ x m b l. refused_done m b l)
 
 pub sizes_determined : (job : List ℕ) (a b : Result Size Refusal) → stated_read a ≡ read_answer job → stated_read b ≡ read_answer job → a ≡ b
 sizes_determined job a b p q = read_injective a b (p ∙ sym q)

@@ -11,3 +11,4 @@ pub mod PackRefusals
 pub mod Promise
 pub mod RoundTrips
 pub mod Determined
+pub mod CheckedLaws

@@ -7,3 +7,4 @@ pub mod Packing
 pub mod Decoding
 pub mod Broken
 pub mod Operations
+pub mod Checked

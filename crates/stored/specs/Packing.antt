@@ -1,6 +1,6 @@
 -- Packing: the table of its refusals, and what is answered.
 -- Assumes nothing.
-use Rattle.std.specs.Prelude.{Result, Ok, Err}
+use Rattle.std.specs.Prelude.{Result}
 use Rattle.stored.specs.declared.Refusal.{Refusal}
 use Rattle.std.specs.Prelude.{◌≡◌, Bool, true, ◌&&◌, List, [], ◌∷◌, ◌++◌, ℕ, ◌*◌, ◌%◌, ◌<◌, eqb, leb, length}
 use Rattle.scans.specs.Refusals.{Stage, whole, in_order}
@@ -8,7 +8,7 @@ use Rattle.meaning.specs.Stated.{Stated, DONE, state}
 use Rattle.stored.specs.Bytes.{Bytes}
 use Rattle.stored.specs.Layout.{Records, sizes_of, blocks_of}
 use Rattle.stored.specs.Rules.{limits_ok, node_ok, expression_ok, clause_ok}
-use Rattle.stored.specs.Reading.{record_stages, refused}
+use Rattle.stored.specs.Reading.{record_stages, refused, stated_by}
 
 -- 1 LENGTH: a list not a multiple of 8
 unfoldable pub lists_ok : Records → Bool
@@ -27,10 +27,8 @@ pack_answer r room =
     let size = 512 * blocks_of (sizes_of r) in
     in_order refused (pack_stages r ++ whole 13 (leb size room) ∷ []) (written size)
 
--- the number and values of each case of packing's answer
 abbrev pub stated_packed : Result ℕ Refusal → Stated
-stated_packed (Ok bytes) = written bytes
-stated_packed (Err r) = refused r.number r.block r.«record»
+stated_packed = stated_by written
 
 -- records that keep every rule: what pack accepts, given room
 pub record Keeps (r : Records) : Type 0 where

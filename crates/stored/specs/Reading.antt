@@ -92,7 +92,10 @@ unpack_answer s nodes expressions clauses =
 unfoldable pub lent : Stated → List ℕ → List ℕ → List ℕ
 lent answer written before = cond (is_done answer.word) (written ++ drop (length written) before) before
 
--- the number and values of each case of reading's answer
+-- the word and numbers of an answer or a refusal
+abbrev pub stated_by : {A : Type 0} → (A → Stated) → Result A Refusal → Stated
+stated_by stated (Ok x) = stated x
+stated_by stated (Err r) = refused r.number r.block r.«record»
+
 abbrev pub stated_read : Result Size Refusal → Stated
-stated_read (Ok z) = accepted_as z
-stated_read (Err r) = refused r.number r.block r.«record»
+stated_read = stated_by accepted_as

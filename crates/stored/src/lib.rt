@@ -1,8 +1,13 @@
 // What reading and packing a stored job answer, or why they refuse it. What the bytes of a job mean stands in specs/.
 #![tactic(auto)]
 
-ghost use Rattle.std.specs.Prelude.{◌≡◌, ◌+◌, ◌/◌, ◌%◌, ◌<◌};
+ghost use Rattle.std.specs.Prelude.{◌≡◌, ℕ, ◌+◌, ◌/◌, ◌%◌, ◌<◌, Bool};
+ghost use Rattle.scans.specs.Refusals.{whole};
 ghost use Rattle.stored.specs.Reasons.{number_of};
+ghost use Rattle.stored.specs.Reading.{per_block, per_record};
+ghost use Rattle.stored.specs.Checked.{checked};
+
+use scans::first_bad;
 
 // k, and how many nodes, expressions and clauses a job has.
 #[derive(Clone, Copy)]
@@ -37,6 +42,48 @@ impl Reason {
         ensures { result ≡ number_of self }
     {
         self as usize
+    }
+
+    // Refuses for this reason, unless the test was passed.
+    #[tactic(auto, unfolding(crate::specs::Checked::checked, scans::specs::Refusals::unless_at, scans::specs::First::first_bad))]
+    pub fn unless(self, passed: bool) -> Result<(), Refusal>
+        ensures { result ≡ checked (whole (number_of self) passed) }
+    {
+        if passed {
+            Ok(())
+        } else {
+            Err(Refusal::whole(self))
+        }
+    }
+
+    // Refuses the first block below `count` that fails the test.
+    pub fn unless_each_block<F: Fn(usize) -> bool>(self, count: usize, test: F) -> Result<(), Refusal>
+        requires { (i : ℕ) → i < count → F.pre test i }
+        ensures { (f : ℕ → Bool) → ((i : ℕ) (r : Bool) → i < count → F.post test i r → r ≡ f i)
+            → result ≡ checked (per_block (number_of self) count f) }
+    {
+        match first_bad(count, test) {
+            None => Ok(()),
+            Some(b) => Err(Refusal::in_block(self, b)),
+        }
+    }
+
+    // Refuses the first record below `count` that fails the test, of records that begin in block `first`.
+    pub fn unless_each_record<F: Fn(usize) -> bool>(
+        self,
+        first: usize,
+        count: usize,
+        test: F,
+    ) -> Result<(), Refusal>
+        requires first_bound { first < 65536 }
+        requires callable { (i : ℕ) → i < count → F.pre test i }
+        ensures { (f : ℕ → Bool) → ((i : ℕ) (r : Bool) → i < count → F.post test i r → r ≡ f i)
+            → result ≡ checked (per_record (number_of self) first count f) }
+    {
+        match first_bad(count, test) {
+            None => Ok(()),
+            Some(i) => Err(Refusal::in_record(self, first, i)),
+        }
     }
 }
 

@@ -1,38 +1,32 @@
-// Texts put at a place of lent bytes, and answered with the place after them.
+// Texts put at a place of lent bytes, and numbers at the end of a line, in their decimal digits.
 #![tactic(auto)]
 
-ghost use Rattle.std.specs.Prelude.{[], ◌∷◌, ◌+◌, ◌<◌, ◌≤◌, length};
-ghost use Rattle.texts.specs.Decimals.{digit, decimal};
+ghost use Rattle.std.specs.Prelude.{◌≡◌, ◌++◌, ◌+◌, ◌≤◌, length};
+ghost use Rattle.texts.specs.Decimals.{decimal};
 ghost use Rattle.texts.specs.Putting.{Puts};
 
+use arrayvec::ArrayString;
+use itoa::Buffer;
+
+pub type Line = ArrayString<256>;
+
+// Answers the place after the text.
 pub fn put_text(text: &[u8], line: &mut [u8], at: usize) -> usize
     requires { at + length text.now ≤ length line.old }
     ensures { Puts text.now at line.old line.new result }
 {
-    let mut i: usize = 0;
-    while i < text.len() {
-        line[at + i] = text[i];
-        i += 1;
-    }
-    at + i
+    let end = at + text.len();
+    line[at..end].copy_from_slice(text);
+    end
 }
 
-fn put_digit(d: usize, line: &mut [u8], at: usize) -> usize
-    requires { (d < 10) × (at < length line.old) }
-    ensures { Puts (digit d ∷ []) at line.old line.new result }
+// Twenty digits at most.
+#[tactic(auto, using(crate::proofs::DecimalLaws::std_decimal_is, crate::proofs::DecimalLaws::decimal_length))]
+pub fn push_number(line: &mut Line, x: usize)
+    requires { length line.old.bytes + length (decimal x) ≤ 256 }
+    ensures is { line.new.bytes ≡ line.old.bytes ++ decimal x }
+    ensures short { length (decimal x) ≤ 20 }
 {
-    line[at] = 48 + d as u8;
-    at + 1
-}
-
-// The last digit stands after those of the tenth part.
-pub fn put_number(x: usize, line: &mut [u8], at: usize) -> usize
-    requires { at + length (decimal x) ≤ length line.old }
-    ensures { Puts (decimal x) at line.old line.new result }
-{
-    if x < 10 {
-        return put_digit(x, line, at);
-    }
-    let next = put_number(x / 10, line, at);
-    put_digit(x % 10, line, next)
+    let mut digits = Buffer::new();
+    line.push_str(digits.format(x));
 }

@@ -7,35 +7,23 @@ use Rattle.stored.specs.declared.Size.{Size}
 use mathlib.Core.Path.{◌≡◌, sym, ◌∙◌}
 use mathlib.Core.List.{List, [], ◌∷◌}
 use Prim.Native.Nat.{ℕ}
+use Rattle.meaning.specs.Stated.{stated_case, stated_job}
 use Rattle.meaning.proofs.Stated.{case_injective, job_injective}
 use Rattle.stored.specs.declared.Refusal.{Refusal}
 use Rattle.stored.specs.Reading.{refused}
 use Rattle.stored.proofs.Accepted.{refused_done}
-use Rattle.stored.proofs.Determined.{read_injective}
+use Rattle.stored.proofs.Determined.{stated_injective, packed_injective}
 use Rattle.verdicts.specs.Running.{check_answer, one_case_answer, stated_checked, stated_case_checked, stated_row, GivesRow}
 use Rattle.verdicts.proofs.Answers.{refused_job, refused_case}
 
-refusal_same : (x y : Refusal) → refused x.number x.block x.«record» ≡ refused y.number y.block y.«record» → x ≡ y
-refusal_same x y e = cc (read_injective (Err x) (Err y) e)
-
--- two answers that are stated alike are one
 pub checked_injective : (a b : Result JobAnswer Refusal) → stated_checked a ≡ stated_checked b → a ≡ b
-checked_injective (Ok x) (Ok y) e = cc (job_injective x y e)
-checked_injective (Ok x) (Err y) e = absurd (refused_job x _ _ _ (sym e))
-checked_injective (Err x) (Ok y) e = absurd (refused_job y _ _ _ e)
-checked_injective (Err x) (Err y) e = cc (refusal_same x y e)
+checked_injective = stated_injective stated_job job_injective (λ x m b l. refused_job x m b l)
 
 pub case_checked_injective : (a b : Result CaseAnswer Refusal) → stated_case_checked a ≡ stated_case_checked b → a ≡ b
-case_checked_injective (Ok x) (Ok y) e = cc (case_injective x y e)
-case_checked_injective (Ok x) (Err y) e = absurd (refused_case x _ _ _ (sym e))
-case_checked_injective (Err x) (Ok y) e = absurd (refused_case y _ _ _ e)
-case_checked_injective (Err x) (Err y) e = cc (refusal_same x y e)
+case_checked_injective = stated_injective stated_case case_injective (λ x m b l. refused_case x m b l)
 
 pub row_injective : (a b : Result ℕ Refusal) → stated_row a ≡ stated_row b → a ≡ b
-row_injective (Ok x) (Ok y) e = let ns : x ∷ [] ≡ y ∷ [] = λ i. (e i).numbers in cc
-row_injective (Ok x) (Err y) e = absurd (refused_done _ _ _ (sym e))
-row_injective (Err x) (Ok y) e = absurd (refused_done _ _ _ e)
-row_injective (Err x) (Err y) e = cc (refusal_same x y e)
+row_injective = packed_injective
 
 pub check_determined : (job : List ℕ) (a b : Result JobAnswer Refusal) → stated_checked a ≡ check_answer job → stated_checked b ≡ check_answer job → a ≡ b
 check_determined job a b p q = checked_injective a b (p ∙ sym q)

@@ -1,6 +1,6 @@
 -- Running a stored job: the tables of refusals of check, one case and row, and what each answers.
 -- Assumes nothing.
-use Rattle.std.specs.Prelude.{Result, Ok, Err}
+use Rattle.std.specs.Prelude.{Result}
 use Rattle.meaning.specs.declared.JobAnswer.{JobAnswer}
 use Rattle.stored.specs.declared.Refusal.{Refusal}
 use Rattle.meaning.specs.declared.CaseAnswer.{CaseAnswer}
@@ -13,7 +13,7 @@ use Rattle.meaning.specs.Cases.{case_answer}
 use Rattle.meaning.specs.Answers.{job_answer}
 use Rattle.meaning.specs.Stated.{Stated, stated_case, stated_job}
 use Rattle.stored.specs.Layout.{header_sizes, records_of}
-use Rattle.stored.specs.Reading.{read_stages, refused, lent}
+use Rattle.stored.specs.Reading.{read_stages, refused, lent, stated_by}
 use Rattle.stored.specs.Packing.{written}
 use Rattle.stored.specs.Decoding.{job_of}
 
@@ -47,18 +47,14 @@ row_stages s x t room =
 unfoldable pub row_answer : List ℕ → ℕ → ℕ → ℕ → Stated
 row_answer s x t room = in_order refused (row_stages s x t room) (written (header_sizes s).n)
 
--- the word and numbers of each case of these answers
 abbrev pub stated_checked : Result JobAnswer Refusal → Stated
-stated_checked (Ok a) = stated_job a
-stated_checked (Err r) = refused r.number r.block r.«record»
+stated_checked = stated_by stated_job
 
 abbrev pub stated_case_checked : Result CaseAnswer Refusal → Stated
-stated_case_checked (Ok a) = stated_case a
-stated_case_checked (Err r) = refused r.number r.block r.«record»
+stated_case_checked = stated_by stated_case
 
 abbrev pub stated_row : Result ℕ Refusal → Stated
-stated_row (Ok bytes) = written bytes
-stated_row (Err r) = refused r.number r.block r.«record»
+stated_row = stated_by written
 
 -- what row promises: the answer, and the lent output after it, n bytes 0, 1, or 2 for X
 pub record GivesRow (job : List ℕ) (x t : ℕ) (out out' : List ℕ) (r : Result ℕ Refusal) : Type 0 where

@@ -2,18 +2,16 @@
 -- Assumes nothing.
 use mathlib.Core.Path.{◌≡◌, refl, sym, ap, ◌∙◌}
 use mathlib.Core.Bool.{Bool, true, false, not, ◌&&◌, ◌||◌, cond}
-use mathlib.Core.List.{[], ◌∷◌}
 use Prim.Native.Nat.{ℕ, ◌<◌}
 use Rattle.meaning.specs.Values.{Value, v0, v1, v_x, Cell, value, collision, join, join_cells, collides, bit, has}
 use Rattle.meaning.specs.declared.Gate.{Gate}
 use Rattle.meaning.specs.declared.Gate.TheVariants.{Input, Zero, One, Buf, Not, And, Or, Xor, Mux}
-use Rattle.meaning.specs.Gates.{gate_of_code, gate_forces}
+use Rattle.meaning.specs.Gates.{gate_forces}
 use Rattle.meaning.specs.Guards.{bit_of}
 use Rattle.meaning.proofs.Everywhere.{values, values_e, values2_e, gates_e}
 use Rattle.meaning.proofs.Values.{has_e}
 use Rattle.words.specs.declared.Pair.{Pair}
 use Rattle.words.specs.Places.{cell_of, cell_at, Forces, Narrows, Collided, Differs, Bits, bits_at, not_bits, and_bits, or_bits, xor_bits, mux_bits}
-use Rattle.words.proofs.Choices.{get_or_first}
 
 -- the bits that a gate's words have at a place, from its operands' there
 abbrev pub gate_bits : Gate → Bits → Bits → Bits → Bits
@@ -60,7 +58,7 @@ unfolding gate_forces
 gate_bits_lem g a b c =
     has_e _ _ (values_e (agrees g a b) (values2_e (λ a b. values (agrees g a b)) (gates_e (λ g. values λ a. values λ b. values (agrees g a b)) tt g) a b) c)
 
-pub forces_of : {code : ℕ} {p q r new : Pair} (g : Gate) → gate_of_code code ≡ g → ((i : ℕ) → i < 64 → bits_at new i ≡ gate_bits g (bits_at p i) (bits_at q i) (bits_at r i)) → Forces code p q r new
+pub forces_of : {gate : Gate} {p q r new : Pair} (g : Gate) → gate ≡ g → ((i : ℕ) → i < 64 → bits_at new i ≡ gate_bits g (bits_at p i) (bits_at q i) (bits_at r i)) → Forces gate p q r new
 unfolding cell_at bits_at
 forces_of {p = p} {q} {r} {new} g e h =
     record {
@@ -68,10 +66,6 @@ forces_of {p = p} {q} {r} {new} g e h =
           let w : bits_at new i ≡ gate_bits g (bits_of (value a)) (bits_of (value b)) (bits_of (value c)) = h i l ∙ rw (bits_at_lem p i ea, bits_at_lem q i eb, bits_at_lem r i ec) in
           rw e (ap cell_of_bits w ∙ gate_bits_lem g a b c);
     }
-
--- any other code is read as INPUT's
-pub forces_else : {code : ℕ} {p q r new : Pair} → (code < 9 → code ≡ 0) → ((i : ℕ) → i < 64 → bits_at new i ≡ gate_bits Input (bits_at p i) (bits_at q i) (bits_at r i)) → Forces code p q r new
-forces_else {code} h = forces_of Input (get_or_first Input (Zero ∷ One ∷ Buf ∷ Not ∷ And ∷ Or ∷ Xor ∷ Mux ∷ []) code h)
 
 -- a clause that wants 1 clears what could be 0, one that wants 0 what could be 1
 abbrev pub narrow_bits : Bool → Bool → Bits → Bits

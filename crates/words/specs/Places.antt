@@ -1,9 +1,9 @@
 -- Sixty-four cases in a word, one bit a case: the cell of a node at a place, and what a word of guards says there.
 -- Assumes nothing.
-use Rattle.std.specs.Prelude.{◌≡◌, Bool, true, false, not, ◌&&◌, ◌||◌, cond, [], ◌∷◌, ℕ, ◌+◌, ◌*◌, ◌^◌, ◌<◌, ltb, get_or}
-use Rattle.std.specs.Bool.{xor}
+use Rattle.std.specs.Prelude.{◌≡◌, Bool, true, false, not, ◌&&◌, ◌||◌, cond, ℕ, ◌+◌, ◌*◌, ◌^◌, ◌<◌, ltb}
 use Rattle.meaning.specs.Values.{Value, v0, v1, v_x, Cell, value, collision, join_cells, collides, has, bit}
-use Rattle.meaning.specs.Gates.{gate_of_code, gate_forces}
+use Rattle.meaning.specs.declared.Gate.{Gate}
+use Rattle.meaning.specs.Gates.{gate_forces}
 use Rattle.meaning.specs.Guards.{bit_of}
 use Rattle.words.specs.declared.Pair.{Pair}
 
@@ -19,8 +19,8 @@ unfoldable pub cell_at : Pair → ℕ → Cell
 cell_at w i = cell_of (bit_of w.zeros i) (bit_of w.ones i)
 
 -- where the operands' cells are values, the new cell is what the gate forces from them
-pub record Forces (code : ℕ) (p q r new : Pair) : Type 0 where
-  pub at : (i : ℕ) {a b c : Value} → i < 64 → cell_at p i ≡ value a → cell_at q i ≡ value b → cell_at r i ≡ value c → cell_at new i ≡ value (gate_forces (gate_of_code code) a b c)
+pub record Forces (gate : Gate) (p q r new : Pair) : Type 0 where
+  pub at : (i : ℕ) {a b c : Value} → i < 64 → cell_at p i ≡ value a → cell_at q i ≡ value b → cell_at r i ≡ value c → cell_at new i ≡ value (gate_forces gate a b c)
 
 -- where the guard is true, the clause's value is joined
 pub record Narrows (w : Pair) (guard : ℕ) (v : Bool) (new : Pair) : Type 0 where
@@ -41,14 +41,6 @@ pub record VariableWord (g v r : ℕ) : Type 0 where
 -- the places that stand for a case where there are k variables: the first 2^k, so all of them from k 6 on
 pub record UsedPlaces (k r : ℕ) : Type 0 where
   pub at : (i : ℕ) → i < 64 → bit_of r i ≡ ltb i (2 ^ k)
-
--- the truth of an expression by its op, 0 to 6: FALSE, TRUE, VARIABLE, NOT, AND, OR, XOR, from the truths of what it may name
-abbrev pub op_truth : ℕ → Bool → Bool → Bool → Bool
-op_truth op variable a b = get_or (false ∷ true ∷ variable ∷ not a ∷ (a && b) ∷ (a || b) ∷ xor a b ∷ []) op false
-
--- the word of an expression in group g: at place i its truth in case 64 g + i, from variable v there and the words a and b of earlier ones
-pub record ExpressionWord (op g v a b r : ℕ) : Type 0 where
-  pub at : (i : ℕ) → i < 64 → bit_of r i ≡ op_truth op (bit_of (64 * g + i) v) (bit_of a i) (bit_of b i)
 
 -- the two bits of a node at a place: could it be 0, could it be 1
 pub record Bits : Type 0 where

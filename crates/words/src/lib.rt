@@ -5,7 +5,9 @@ ghost use Rattle.std.specs.Prelude.{◌≡◌, ℕ, ◌<◌};
 ghost use Rattle.meaning.specs.Guards.{bit_of};
 ghost use Rattle.meaning.specs.Answers.{tally};
 ghost use Rattle.meaning.proofs.Tallies.{Least};
-ghost use Rattle.words.specs.Places.{Forces, Narrows, Collided, Differs, VariableWord, UsedPlaces, ExpressionWord, bits_at, not_bits, and_bits, or_bits, xor_bits, mux_bits};
+ghost use Rattle.words.specs.Places.{Forces, Narrows, Collided, Differs, VariableWord, UsedPlaces, bits_at, not_bits, and_bits, or_bits, xor_bits, mux_bits};
+
+use meaning::Gate;
 
 #[derive(Clone, Copy)]
 pub struct Pair {
@@ -14,7 +16,7 @@ pub struct Pair {
 }
 
 // Every place.
-const ALL: u64 = 0xFFFF_FFFF_FFFF_FFFF;
+pub const ALL: u64 = u64::MAX;
 
 // The low 2^k places of a word, for k below 6.
 const LOW: [u64; 6] = [0x1, 0x3, 0xF, 0xFF, 0xFFFF, 0xFFFF_FFFF];
@@ -51,7 +53,7 @@ pub fn used_places(k: usize) -> u64
 pub fn count(x: u64) -> usize
     ensures { result ≡ tally (bit_of x) 64 }
 {
-    u64::count_ones(x) as usize
+    x.count_ones() as usize
 }
 
 // The least place of `x` that is set.
@@ -59,7 +61,7 @@ pub fn least_place(x: u64) -> usize
     requires { x ≡ 0 → ⊥ }
     ensures { Least (bit_of x) 64 result }
 {
-    u64::trailing_zeros(x) as usize
+    x.trailing_zeros() as usize
 }
 
 // The gates, at all places together. NOT exchanges the two words, so no gate needs a complement.
@@ -108,29 +110,29 @@ fn mux_pair(p: Pair, q: Pair, r: Pair) -> Pair
     }
 }
 
-// What the gate of a code forces. INPUT, and any code that no gate has, forces nothing: it could be either.
-pub fn gate_pair(code: u64, p: Pair, q: Pair, r: Pair) -> Pair
-    ensures { Forces code p q r result }
+// What a gate forces. INPUT forces nothing: it could be either.
+pub fn gate_pair(gate: Gate, p: Pair, q: Pair, r: Pair) -> Pair
+    ensures { Forces gate p q r result }
 {
-    match code {
-        1 => Pair {
+    match gate {
+        Gate::Input => Pair {
+            zeros: ALL,
+            ones: ALL,
+        },
+        Gate::Zero => Pair {
             zeros: ALL,
             ones: 0,
         },
-        2 => Pair {
+        Gate::One => Pair {
             zeros: 0,
             ones: ALL,
         },
-        3 => p,
-        4 => not_pair(p),
-        5 => and_pair(p, q),
-        6 => or_pair(p, q),
-        7 => xor_pair(p, q),
-        8 => mux_pair(p, q, r),
-        _ => Pair {
-            zeros: ALL,
-            ones: ALL,
-        },
+        Gate::Buf => p,
+        Gate::Not => not_pair(p),
+        Gate::And => and_pair(p, q),
+        Gate::Or => or_pair(p, q),
+        Gate::Xor => xor_pair(p, q),
+        Gate::Mux => mux_pair(p, q, r),
     }
 }
 
@@ -163,20 +165,4 @@ pub fn differs(w: Pair, one: bool) -> u64
     ensures { Differs w one result }
 {
     if one { w.zeros } else { w.ones }
-}
-
-// The word of an expression in group `g`, from the words `a` and `b` of earlier ones. VARIABLE alone looks at `v`.
-pub fn expression_word(op: u64, g: usize, v: usize, a: u64, b: u64) -> u64
-    requires { op ≡ 2 → v < 16 }
-    ensures { ExpressionWord op g v a b result }
-{
-    match op {
-        1 => ALL,
-        2 => variable_word(g, v),
-        3 => !a,
-        4 => a & b,
-        5 => a | b,
-        6 => a ^ b,
-        _ => 0,
-    }
 }

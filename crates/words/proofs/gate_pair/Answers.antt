@@ -1,67 +1,38 @@
--- `gate_pair` has the bits of the gate of its code.
+-- `gate_pair` has the bits of its gate.
 -- Assumes nothing.
-use mathlib.Core.Path.{refl, ap}
-use borrow.Author.Rules.{rules}
-use Rattle.meaning.specs.declared.Gate.TheVariants.{Zero, One, Buf, Not, And, Or, Xor, Mux}
-use Rattle.meaning.specs.Gates.{gate_of_code}
+use Rattle.std.proofs.Common.{refl}
+use Rattle.meaning.specs.declared.Gate.TheVariants.{Input, Zero, One, Buf, Not, And, Or, Xor, Mux}
 use Rattle.words.specs.Places.{bits_at}
 use Rattle.words.proofs.Bits.{bit_all, bit_zero}
-use Rattle.words.proofs.Gates.{forces_of, forces_else}
-use Rattle.words.proofs.Choices.{no_arm}
+use Rattle.words.proofs.Gates.{forces_of}
 use Rattle.words.proofs.gate_pair.Goals as goal
 
-pub not_pair-requires : goal.not_pair-requires
+pub returns-in-Input : goal.returns-in-Input
 unfolding bits_at
-not_pair-requires c = search rules
+returns-in-Input c = forces_of Input c.in-Input.is (λ i l. simp (bit_all i l))
 
-pub and_pair-requires : goal.and_pair-requires
+pub returns-in-Zero : goal.returns-in-Zero
 unfolding bits_at
-and_pair-requires c = search rules
+returns-in-Zero c = forces_of Zero c.in-Zero.is (λ i l. simp (bit_all i l, bit_zero))
 
-pub or_pair-requires : goal.or_pair-requires
+pub returns-in-One : goal.returns-in-One
 unfolding bits_at
-or_pair-requires c = search rules
+returns-in-One c = forces_of One c.in-One.is (λ i l. simp (bit_all i l, bit_zero))
 
-pub xor_pair-requires : goal.xor_pair-requires
-unfolding bits_at
-xor_pair-requires c = search rules
+pub returns-in-Buf : goal.returns-in-Buf
+returns-in-Buf c = forces_of Buf c.in-Buf.is (λ i l. refl)
 
-pub mux_pair-requires : goal.mux_pair-requires
-unfolding bits_at
-mux_pair-requires c = search rules
+pub returns-in-Not : goal.returns-in-Not
+returns-in-Not c = forces_of Not c.in-Not.is (λ i l. c.not_pair.ensures i)
 
-pub returns-in-1 : goal.returns-in-1
-unfolding bits_at
-returns-in-1 c = forces_of Zero (ap gate_of_code c.in-1.is) (λ i l. simp (bit_all i l, bit_zero))
+pub returns-in-And : goal.returns-in-And
+returns-in-And c = forces_of And c.in-And.is (λ i l. c.and_pair.ensures i)
 
-pub returns-in-2 : goal.returns-in-2
-unfolding bits_at
-returns-in-2 c = forces_of One (ap gate_of_code c.in-2.is) (λ i l. simp (bit_all i l, bit_zero))
+pub returns-in-Or : goal.returns-in-Or
+returns-in-Or c = forces_of Or c.in-Or.is (λ i l. c.or_pair.ensures i)
 
-pub returns-in-3 : goal.returns-in-3
-unfolding bits_at
-returns-in-3 c = forces_of Buf (ap gate_of_code c.in-3.is) (λ i l. refl)
+pub returns-in-Xor : goal.returns-in-Xor
+returns-in-Xor c = forces_of Xor c.in-Xor.is (λ i l. c.xor_pair.ensures i)
 
-pub returns-in-4 : goal.returns-in-4
-unfolding bits_at
-returns-in-4 c = forces_of Not (ap gate_of_code c.in-4.is) (λ i l. c.not_pair.ensures i)
-
-pub returns-in-5 : goal.returns-in-5
-unfolding bits_at
-returns-in-5 c = forces_of And (ap gate_of_code c.in-5.is) (λ i l. c.and_pair.ensures i)
-
-pub returns-in-6 : goal.returns-in-6
-unfolding bits_at
-returns-in-6 c = forces_of Or (ap gate_of_code c.in-6.is) (λ i l. c.or_pair.ensures i)
-
-pub returns-in-7 : goal.returns-in-7
-unfolding bits_at
-returns-in-7 c = forces_of Xor (ap gate_of_code c.in-7.is) (λ i l. c.xor_pair.ensures i)
-
-pub returns-in-8 : goal.returns-in-8
-unfolding bits_at
-returns-in-8 c = forces_of Mux (ap gate_of_code c.in-8.is) (λ i l. c.mux_pair.ensures i)
-
-pub returns-in_default : goal.returns-in_default
-unfolding bits_at
-returns-in_default c = forces_else (λ h. search no_arm depth 12) (λ i l. simp (bit_all i l))
+pub returns-in-Mux : goal.returns-in-Mux
+returns-in-Mux c = forces_of Mux c.in-Mux.is (λ i l. c.mux_pair.ensures i)

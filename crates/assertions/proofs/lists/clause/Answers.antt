@@ -1,39 +1,48 @@
--- `clause`: the word, and what comes after it.
+-- `clause`: the word, the guard, a colon, and what it says.
 -- Assumes nothing.
+use native.Mathlib.Omega.{arith}
 use Rattle.grammar.specs.Items.{letters}
-use Rattle.phrases.proofs.Standing.{spelt_to, spelt_broken}
-use Rattle.assertions.proofs.ClauseRuns.{when_none, when_read}
-use borrow.Author.Rules.{rules}
+use Rattle.grammar.proofs.Frames.{size_some}
+use Rattle.phrases.proofs.Exits.{left_with}
+use Rattle.phrases.proofs.Standing.{stands, stands_not}
+use Rattle.assertions.proofs.ClauseRuns.{when_none, when_to, when_then_none, asked_after_when, touched_none, guard_none, colon_none, rest_none, rest_to}
 use Rattle.assertions.proofs.lists.clause.Goals as goal
 
-pub spell-requires : goal.spell-requires
+pub returns-in_err-end : goal.returns-in_err-end
 unfolding letters
-spell-requires c = c.requires.0.inside
+returns-in_err-end c = rw (left_with c.from_residual.result c.from_residual.ensures.1) (record { says = when_none c.requires.0 c.requires.1 c.in_err-end.ensures.says })
 
-pub enum_known-j : goal.enum_known-j
+pub returns-then-touches : goal.returns-then-touches
 unfolding letters
-enum_known-j c = search rules
+returns-then-touches c =
+    let w = c.in_ok-end.ensures.says in
+    record { says = when_then_none c.requires.0 w (touched_none (asked_after_when c.requires.0 w) c.skip-from.ensures c.touches.ensures c.if-touches.true) }
 
-pub enum_known-q : goal.enum_known-q
+pub returns-in_err-guard : goal.returns-in_err-guard
 unfolding letters
-enum_known-q c = search rules
+returns-in_err-guard c =
+    let w = c.in_ok-end.ensures.says in
+    rw (left_with c.from_residual-in_err-guard.result c.from_residual-in_err-guard.ensures.1)
+    (record { says = when_then_none c.requires.0 w (guard_none (asked_after_when c.requires.0 w) c.skip-from.ensures c.touches.ensures c.if-touches.false c.in_err-guard.ensures.says) })
 
-pub guarded-requires : goal.guarded-requires
+pub returns-then-not-is_at : goal.returns-then-not-is_at
 unfolding letters
-guarded-requires c = record { inside = (spelt_to c.spell.ensures c.in-To.is).inside; few_variables = c.requires.0.few_variables; few_nodes = c.requires.0.few_nodes; room_e = c.requires.0.room_e; room_c = c.requires.0.room_c; enough_e = c.requires.0.enough_e; enough_c = c.requires.0.enough_c }
+returns-then-not-is_at c =
+    let w = c.in_ok-end.ensures.says in
+    record { says = when_then_none c.requires.0 w (colon_none (asked_after_when c.requires.0 w) c.skip-from.ensures c.touches.ensures c.if-touches.false c.in_ok-guard.ensures.says (stands_not c.is_at.ensures c.if-not-is_at.true)) }
 
-pub returns-in-Stuck : goal.returns-in-Stuck
+pub returns-in_err-told : goal.returns-in_err-told
 unfolding letters
-returns-in-Stuck c = record { says = when_none c.requires.0 c.requires.1 (spelt_broken c.spell.ensures c.in-Stuck.is) }
+returns-in_err-told c =
+    let w = c.in_ok-end.ensures.says in
+    rw (left_with c.from_residual-in_err-told.result c.from_residual-in_err-told.ensures.1)
+    (record { says = when_then_none c.requires.0 w (rest_none (asked_after_when c.requires.0 w) c.skip-from.ensures c.touches.ensures c.if-touches.false c.in_ok-guard.ensures.says (stands c.is_at.ensures c.if-not-is_at.false) c.in_err-told.ensures.says) })
 
-pub shape_of-es : goal.shape_of-es
-unfolding letters
-shape_of-es c = search rules
+pub overflow_sub-guard : goal.overflow_sub-guard
+overflow_sub-guard c = omega (arith, c.in_ok-guard.ensures.says.count, size_some c.in_ok-guard.ensures.says.guard)
 
-pub shape_of-cs : goal.shape_of-cs
+pub returns : goal.returns
 unfolding letters
-shape_of-cs c = search rules
-
-pub returns-in-To : goal.returns-in-To
-unfolding letters
-returns-in-To c = when_read c.requires.0 (spelt_to c.spell.ensures c.in-To.is) c.guarded.ensures
+returns c =
+    let w = c.in_ok-end.ensures.says in
+    record { says = when_to c.requires.0 w (rest_to (asked_after_when c.requires.0 w) c.skip-from.ensures c.touches.ensures c.if-touches.false c.in_ok-guard.ensures.says (stands c.is_at.ensures c.if-not-is_at.false) c.in_ok-told.ensures.says c.put_clause.ensures) }

@@ -1,39 +1,28 @@
--- `expected`: the word, and the list after it.
+-- `expected`: the word, and clauses to the end of the text.
 -- Assumes nothing.
 use Rattle.grammar.specs.Items.{letters}
-use Rattle.phrases.proofs.Standing.{spelt_to, spelt_broken}
-use Rattle.assertions.proofs.TextRuns.{expect_none, expect_read, asked_on}
-use borrow.Author.Rules.{rules}
+use Rattle.phrases.proofs.Exits.{left_with}
+use Rattle.assertions.proofs.TextRuns.{expect_none, rest_touched, rest_fails, rest_open, rest_ends}
 use Rattle.assertions.proofs.reading.expected.Goals as goal
 
-pub spell-requires : goal.spell-requires
+pub returns-in_err-end : goal.returns-in_err-end
 unfolding letters
-spell-requires c = c.requires.0.inside
+returns-in_err-end c = rw (left_with c.from_residual.result c.from_residual.ensures.1) (record { says = expect_none c.requires.1 c.requires.2 c.in_err-end.ensures.says })
 
-pub enum_known-j : goal.enum_known-j
+pub returns-then-touches : goal.returns-then-touches
 unfolding letters
-enum_known-j c = search rules
+returns-then-touches c = record { says = rest_touched c.in_ok-end.ensures.says c.skip-from.ensures c.touches.ensures c.if-touches.true }
 
-pub enum_known-q : goal.enum_known-q
+pub returns-in_err-list : goal.returns-in_err-list
 unfolding letters
-enum_known-q c = search rules
+returns-in_err-list c =
+    rw (left_with c.from_residual-in_err-list.result c.from_residual-in_err-list.ensures.1)
+    (record { says = rest_fails c.in_ok-end.ensures.says c.skip-from.ensures c.touches.ensures c.if-touches.false c.in_err-list.ensures.says })
 
-pub expect_list-requires : goal.expect_list-requires
+pub returns-then-list-text : goal.returns-then-list-text
 unfolding letters
-expect_list-requires c = asked_on c.requires.0 (spelt_to c.spell.ensures c.in-To.is).inside
+returns-then-list-text c = record { says = rest_open c.in_ok-end.ensures.says c.skip-from.ensures c.touches.ensures c.if-touches.false c.in_ok-list.ensures.says c.if-list-text.true }
 
-pub returns-in-Stuck : goal.returns-in-Stuck
+pub returns : goal.returns
 unfolding letters
-returns-in-Stuck c = record { says = expect_none c.requires.1 c.requires.2 (spelt_broken c.spell.ensures c.in-Stuck.is) }
-
-pub shape_of-es : goal.shape_of-es
-unfolding letters
-shape_of-es c = search rules
-
-pub shape_of-cs : goal.shape_of-cs
-unfolding letters
-shape_of-cs c = search rules
-
-pub returns-in-To : goal.returns-in-To
-unfolding letters
-returns-in-To c = expect_read (spelt_to c.spell.ensures c.in-To.is) c.expect_list.ensures
+returns c = record { says = rest_ends c.in_ok-end.ensures.says c.skip-from.ensures c.touches.ensures c.if-touches.false c.in_ok-list.ensures.says c.if-list-text.false }

@@ -1,43 +1,24 @@
--- `whole_text`: the first word, and the rest.
+-- `whole_text`: the first word, its clauses, and the rest.
 -- Assumes nothing.
 use Rattle.grammar.specs.Items.{letters}
-use Rattle.phrases.proofs.Standing.{spelt_to, spelt_broken}
-use Rattle.assertions.proofs.TextRuns.{text_none, text_read, asked_on}
-use borrow.Author.Rules.{rules}
+use Rattle.phrases.proofs.Exits.{left_with}
+use Rattle.assertions.proofs.TextRuns.{text_none, given_close, given_fails, text_at}
 use Rattle.assertions.proofs.reading.whole_text.Goals as goal
 
-pub skip-requires : goal.skip-requires
+pub returns-in_err-end : goal.returns-in_err-end
 unfolding letters
-skip-requires c = search rules
+returns-in_err-end c = rw (left_with c.from_residual.result c.from_residual.ensures.1) (record { says = text_none c.skip.ensures c.in_err-end.ensures.says })
 
-pub spell-requires : goal.spell-requires
+pub returns-then-from-end : goal.returns-then-from-end
 unfolding letters
-spell-requires c = c.skip.ensures.over.inside
+returns-then-from-end c = record { says = given_close c.skip.ensures c.in_ok-end.ensures.says c.skip-from.ensures c.if-from-end.true }
 
-pub enum_known-j : goal.enum_known-j
+pub returns-in_err-given : goal.returns-in_err-given
 unfolding letters
-enum_known-j c = search rules
+returns-in_err-given c =
+    rw (left_with c.from_residual-in_err-given.result c.from_residual-in_err-given.ensures.1)
+    (record { says = given_fails c.skip.ensures c.in_ok-end.ensures.says c.skip-from.ensures c.if-from-end.false c.in_err-given.ensures.says })
 
-pub enum_known-q : goal.enum_known-q
+pub returns : goal.returns
 unfolding letters
-enum_known-q c = search rules
-
-pub given_list-requires : goal.given_list-requires
-unfolding letters
-given_list-requires c = asked_on c.requires (spelt_to c.spell.ensures c.in-To.is).inside
-
-pub returns-in-Stuck : goal.returns-in-Stuck
-unfolding letters
-returns-in-Stuck c = record { says = text_none c.skip.ensures (spelt_broken c.spell.ensures c.in-Stuck.is) }
-
-pub shape_of-es : goal.shape_of-es
-unfolding letters
-shape_of-es c = search rules
-
-pub shape_of-cs : goal.shape_of-cs
-unfolding letters
-shape_of-cs c = search rules
-
-pub returns-in-To : goal.returns-in-To
-unfolding letters
-returns-in-To c = text_read c.skip.ensures (spelt_to c.spell.ensures c.in-To.is) c.given_list.ensures
+returns c = text_at c.skip.ensures c.in_ok-end.ensures.says c.skip-from.ensures c.if-from-end.false c.in_ok-given.ensures.says c.expected.ensures

@@ -1,80 +1,36 @@
 -- `rules_kept` goes through the three stages as the table does.
 -- Assumes nothing.
-use Rattle.std.proofs.Common.{refl, rules}
-use Rattle.scans.proofs.Order.{on_stopped, on_clear, on_end}
-use Rattle.stored.specs.Reading.{refused}
-use Rattle.blocks.specs.Steps.{spotted_stages}
-use Rattle.blocks.proofs.Borders.{broken_is}
+use Rattle.std.proofs.Common.{rules}
+use Rattle.std.proofs.lemmas.Result.{err_from_is_err_and}
+use Rattle.stored.specs.Rules.{node_ok, expression_ok, clause_ok}
+use Rattle.stored.specs.Reading.{per_record}
+use Rattle.stored.proofs.CheckedLaws.{check_failed, check_passed, check_last}
+use Rattle.blocks.specs.Steps.{spot}
 use Rattle.blocks.proofs.rules.rules_kept.Goals as goal
 
-pub first_broken-requires : goal.first_broken-requires
-unfolding spotted_stages
-first_broken-requires c = search rules
+pub returns-in_err-unless_each_record : goal.returns-in_err-unless_each_record
+returns-in_err-unless_each_record c =
+    let z = c.args.layout.size in
+    let made = c.unless_each_record.ensures (λ i. node_ok z.n c.args.nodes.bytes.now (spot c.args.nodes.first i)) (λ i r h e. search rules) in
+    let p = err_from_is_err_and c.from_residual.result c.from_residual.ensures.1 in
+    record { is = λ next. rw (p.1, p.2) (check_failed _ _ _ made c.in_err-unless_each_record.was) }
 
-pub enum_known-i : goal.enum_known-i
-unfolding spotted_stages
-enum_known-i c = search rules
-
-pub broken_in-requires : goal.broken_in-requires
-unfolding spotted_stages
-broken_in-requires c = search rules
-
-pub returns-in-Stopped : goal.returns-in-Stopped
-unfolding spotted_stages
-returns-in-Stopped c = record { is = λ next. on_stopped refused _ next _ c.first_broken.ensures c.in-Stopped.is (broken_is _ _ _ next c.broken_in.ensures refl) }
-
-pub enum_told-1 : goal.enum_told-1
-unfolding spotted_stages
-enum_told-1 c = search rules
-
-pub first_broken-requires-2 : goal.first_broken-requires-2
-unfolding spotted_stages
-first_broken-requires-2 c = search rules
-
-pub enum_known-i-in-Stopped-first_broken-2 : goal.enum_known-i-in-Stopped-first_broken-2
-unfolding spotted_stages
-enum_known-i-in-Stopped-first_broken-2 c = search rules
-
-pub first_expressions-requires : goal.first_expressions-requires
-unfolding spotted_stages
-first_expressions-requires c = search rules
-
-pub broken_in-requires-in-Stopped-first_broken : goal.broken_in-requires-in-Stopped-first_broken
-unfolding spotted_stages
-broken_in-requires-in-Stopped-first_broken c = search rules
-
-pub returns-in-Stopped-first_broken : goal.returns-in-Stopped-first_broken
-unfolding spotted_stages
-returns-in-Stopped-first_broken c = record { is = λ next. on_clear refused _ next _ c.first_broken.ensures c.in_default.is (on_stopped refused _ next _ c.first_broken-2.ensures c.in-Stopped-first_broken.is (broken_is _ _ _ next c.broken_in-in-Stopped-first_broken.ensures c.first_expressions.ensures.0)) }
-
-pub enum_told-in_default-first_broken : goal.enum_told-in_default-first_broken
-unfolding spotted_stages
-enum_told-in_default-first_broken c = search rules
-
-pub first_broken-requires-3 : goal.first_broken-requires-3
-unfolding spotted_stages
-first_broken-requires-3 c = search rules
-
-pub enum_known-i-in-Stopped-first_broken-3 : goal.enum_known-i-in-Stopped-first_broken-3
-unfolding spotted_stages
-enum_known-i-in-Stopped-first_broken-3 c = search rules
-
-pub first_clauses-requires : goal.first_clauses-requires
-unfolding spotted_stages
-first_clauses-requires c = search rules
-
-pub broken_in-requires-in-Stopped-first_broken-2 : goal.broken_in-requires-in-Stopped-first_broken-2
-unfolding spotted_stages
-broken_in-requires-in-Stopped-first_broken-2 c = search rules
-
-pub returns-in-Stopped-first_broken-2 : goal.returns-in-Stopped-first_broken-2
-unfolding spotted_stages
-returns-in-Stopped-first_broken-2 c = record { is = λ next. on_clear refused _ next _ c.first_broken.ensures c.in_default.is (on_clear refused _ next _ c.first_broken-2.ensures c.in_default-first_broken.is (on_stopped refused _ next _ c.first_broken-3.ensures c.in-Stopped-first_broken-2.is (broken_is _ _ _ next c.broken_in-in-Stopped-first_broken-2.ensures c.first_clauses.ensures.0))) }
-
-pub enum_told-in_default-first_broken-2 : goal.enum_told-in_default-first_broken-2
-unfolding spotted_stages
-enum_told-in_default-first_broken-2 c = search rules
+pub returns-in_err-unless_each_record-2 : goal.returns-in_err-unless_each_record-2
+returns-in_err-unless_each_record-2 c =
+    let z = c.args.layout.size in
+    let made = c.unless_each_record.ensures (λ i. node_ok z.n c.args.nodes.bytes.now (spot c.args.nodes.first i)) (λ i r h e. search rules) in
+    let made' = c.unless_each_record-2.ensures (λ i. expression_ok z.k i c.args.expressions.bytes.now (spot c.args.expressions.first i)) (λ i r h e. search rules) in
+    let p = err_from_is_err_and c.from_residual-in_err-unless_each_record-2.result c.from_residual-in_err-unless_each_record-2.ensures.1 in
+    record { is = λ next. rw (p.1, p.2, ← c.first_expressions.ensures.0) (check_passed _ _ _ made c.in_ok-unless_each_record.was (check_failed _ _ _ made' c.in_err-unless_each_record-2.was)) }
 
 pub returns : goal.returns
-unfolding spotted_stages
-returns c = record { is = λ next. on_clear refused _ next _ c.first_broken.ensures c.in_default.is (on_clear refused _ next _ c.first_broken-2.ensures c.in_default-first_broken.is (on_clear refused _ next _ c.first_broken-3.ensures c.in_default-first_broken-2.is (on_end refused next refl))) }
+returns c =
+    let z = c.args.layout.size in
+    let made = c.unless_each_record.ensures (λ i. node_ok z.n c.args.nodes.bytes.now (spot c.args.nodes.first i)) (λ i r h e. search rules) in
+    let made' = c.unless_each_record-2.ensures (λ i. expression_ok z.k i c.args.expressions.bytes.now (spot c.args.expressions.first i)) (λ i r h e. search rules) in
+    let made'' = c.unless_each_record-3.ensures (λ i. clause_ok z.n z.e c.args.clauses.bytes.now (spot c.args.clauses.first i)) (λ i r h e. search rules) in
+    record {
+      is = λ next.
+          rw (← c.first_clauses.ensures.0, ← c.first_expressions.ensures.0)
+          (check_passed _ _ _ made c.in_ok-unless_each_record.was (check_passed _ _ _ made' c.in_ok-unless_each_record-2.was (check_last _ next made'')));
+    }

@@ -1,16 +1,11 @@
--- `skip`: gaps up to the place so far.
+-- `skip`: the gaps that stand there are counted.
 -- Assumes nothing.
-use Rattle.phrases.proofs.Gapped.{gaps_none, gaps_more, gaps_end, gaps_over}
+use native.Mathlib.Omega.{arith}
+use Rattle.phrases.proofs.Runs.{passes, skips}
 use Rattle.phrases.proofs.items.skip.Goals as goal
 
-pub loop-q-init : goal.loop-q-init
-loop-q-init c = gaps_none _ _ c.requires
-
-pub returns-then-not-is_gap : goal.returns-then-not-is_gap
-returns-then-not-is_gap c = gaps_end c.loop-q.invariant c.is_gap.ensures c.if-not-is_gap.true-raw
-
-pub loop-q-preserved : goal.loop-q-preserved
-loop-q-preserved c = gaps_more c.loop-q.invariant c.is_gap.ensures c.if-not-is_gap.false-raw c.loop-q-test.true
+pub overflow_add-result : goal.overflow_add-result
+overflow_add-result c = let p = passes _ c.args.text.now c.args.at c.requires c.gaps.ensures in omega (arith, p.inside)
 
 pub returns : goal.returns
-returns c = gaps_over c.loop-q.invariant c.loop-q-test.false
+returns c = skips (passes _ _ _ c.requires c.gaps.ensures)
