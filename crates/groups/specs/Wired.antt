@@ -1,6 +1,6 @@
 -- The nodes of one kind of gate, what a visit of them writes, and a whole step.
 -- Assumes nothing.
-use Rattle.std.specs.Prelude.{◌≡◌, Bool, true, false, List, ℕ, ◌≤◌, ◌<◌, take, eqb, All, Contains}
+use Rattle.std.specs.Prelude.{◌≡◌, Bool, true, false, List, ℕ, ◌<◌, eqb, All, Contains}
 use Rattle.std.specs.List.{list_any}
 use Rattle.meaning.specs.Values.{Value, value}
 use Rattle.meaning.specs.declared.Gate.{Gate}
@@ -16,11 +16,6 @@ pub record InRow (w : Wire) : Type 0 where
   pub p : w.p < 1008
   pub q : w.q < 1008
   pub r : w.r < 1008
-
--- so are those of the first wires of a list
-pub record Inside (list : List Wire) (count : ℕ) : Type 0 where
-  pub few : count ≤ 1008
-  pub all : All InRow (take count list)
 
 -- a wire stands for one of the job's first n nodes, which has this gate
 pub record Stands (j : Job) (n : ℕ) (gate : Gate) (w : Wire) : Type 0 where

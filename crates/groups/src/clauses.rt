@@ -68,13 +68,14 @@ impl Group<'_> {
         requires steady_but { 0 < t → SteadyBut (job_of self.now) (clauses_at self.now t) row.old }
         ensures { Steady (job_of self.now) row.new }
     {
+        let steady = &self.gates.steady;
         if t == 0 {
-            *row = self.gates.steady;
+            *row = *steady;
             return;
         }
         for clause in self.gates.plan.clauses_at(t) {
             let node = usize::from(clause.node);
-            row[node] = self.gates.steady[node];
+            row[node] = steady[node];
         }
     }
 }

@@ -1,5 +1,5 @@
 // The gates of a plan by their kind, and a step that visits them so: one tight loop for each kind.
-ghost use Rattle.std.specs.Prelude.{◌≡◌, take};
+ghost use Rattle.std.specs.Prelude.{◌≡◌};
 ghost use Rattle.meaning.specs.Gates.{arity};
 ghost use Rattle.meaning.specs.declared.Gate.TheVariants.{Buf, Not, And, Or, Xor, Mux};
 ghost use Rattle.words.specs.Places.{Forces};
@@ -25,12 +25,12 @@ pub struct Gates<'a> {
     pub muxes: Wires,
     // INPUT, ZERO and ONE force the same at every time: what they do, and X for the others.
     pub steady: Row,
-    ghost bufs_all: { Gathered (job_in plan.now) plan.now.size.n Buf (take bufs.count bufs.list) },
-    ghost nots_all: { Gathered (job_in plan.now) plan.now.size.n Not (take nots.count nots.list) },
-    ghost ands_all: { Gathered (job_in plan.now) plan.now.size.n And (take ands.count ands.list) },
-    ghost ors_all: { Gathered (job_in plan.now) plan.now.size.n Or (take ors.count ors.list) },
-    ghost xors_all: { Gathered (job_in plan.now) plan.now.size.n Xor (take xors.count xors.list) },
-    ghost muxes_all: { Gathered (job_in plan.now) plan.now.size.n Mux (take muxes.count muxes.list) },
+    ghost bufs_all: { Gathered (job_in plan.now) plan.now.size.n Buf bufs.list.items },
+    ghost nots_all: { Gathered (job_in plan.now) plan.now.size.n Not nots.list.items },
+    ghost ands_all: { Gathered (job_in plan.now) plan.now.size.n And ands.list.items },
+    ghost ors_all: { Gathered (job_in plan.now) plan.now.size.n Or ors.list.items },
+    ghost xors_all: { Gathered (job_in plan.now) plan.now.size.n Xor xors.list.items },
+    ghost muxes_all: { Gathered (job_in plan.now) plan.now.size.n Mux muxes.list.items },
     ghost is_steady: { Steady (job_in plan.now) steady },
 }
 
@@ -45,8 +45,8 @@ fn steady_row(plan: &Plan) -> Row
     ensures { Steady (job_in plan.now) result }
 {
     let mut row = [UNKNOWN; 1008];
-    for m in 0..plan.size.n {
-        row[m] = steady_pair(plan.nodes[m].gate);
+    for (m, node) in plan.nodes[..plan.size.n].iter().enumerate() {
+        row[m] = steady_pair(node.gate);
     }
     row
 }
@@ -73,11 +73,17 @@ impl<'a> Gates<'a> {
         ensures steps { Steps (job_in self.now.plan.now) now.now next.new }
         ensures steady { Steady (job_in self.now.plan.now) next.new }
     {
-        self.bufs.visit(|p, q, r| gate_pair(Gate::Buf, p, q, r), now, next);
-        self.nots.visit(|p, q, r| gate_pair(Gate::Not, p, q, r), now, next);
-        self.ands.visit(|p, q, r| gate_pair(Gate::And, p, q, r), now, next);
-        self.ors.visit(|p, q, r| gate_pair(Gate::Or, p, q, r), now, next);
-        self.xors.visit(|p, q, r| gate_pair(Gate::Xor, p, q, r), now, next);
-        self.muxes.visit(|p, q, r| gate_pair(Gate::Mux, p, q, r), now, next);
+        self.bufs
+            .visit(|p, q, r| gate_pair(Gate::Buf, p, q, r), now, next);
+        self.nots
+            .visit(|p, q, r| gate_pair(Gate::Not, p, q, r), now, next);
+        self.ands
+            .visit(|p, q, r| gate_pair(Gate::And, p, q, r), now, next);
+        self.ors
+            .visit(|p, q, r| gate_pair(Gate::Or, p, q, r), now, next);
+        self.xors
+            .visit(|p, q, r| gate_pair(Gate::Xor, p, q, r), now, next);
+        self.muxes
+            .visit(|p, q, r| gate_pair(Gate::Mux, p, q, r), now, next);
     }
 }

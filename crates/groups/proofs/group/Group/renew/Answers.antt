@@ -10,8 +10,8 @@ pub loop-clause-init : goal.loop-clause-init
 loop-clause-init c =
     (tt, tt, record { split = rw c.into_iter-clause-iterator.ensures.into_iter_gives c.clauses_at-clause-items.ensures }, c.told-row, renewed_none _ _ (c.requires.steady_but (omega arith)))
 
-pub bounds-self-node : goal.bounds-self-node
-bounds-self-node c =
+pub bounds-steady-node : goal.bounds-steady-node
+bounds-steady-node c =
     let k = walked_timely _ _ c.loop-clause.invariant.2 c.in-Some.ensures.steps in
     omega (arith, k.within.node, c.from-node.ensures, c.args.self.now.gates.now.plan.now.decoded.n_most)
 
@@ -25,9 +25,13 @@ loop-clause-preserved c =
     let s = c.args.self.now in
     let k = walked_timely _ _ c.loop-clause.invariant.2 c.in-Some.ensures.steps in
     let room : c.in-Some.clause.node < length c.loop-clause.row = omega (arith, k.within.node, c.loop-clause.invariant.3, s.gates.now.plan.now.decoded.n_most) in
-    rw c.from-node.ensures
-    (tt, tt, walked_more _ _ c.loop-clause.invariant.2 c.in-Some.ensures.steps, length-set c.loop-clause.row _ _ ∙ c.loop-clause.invariant.3,
-    renewed_more _ _ c.in-Some.clause room s.gates.now.is_steady c.loop-clause.invariant.4)
+    rw c.from-node.ensures (
+      tt,
+      tt,
+      walked_more _ _ c.loop-clause.invariant.2 c.in-Some.ensures.steps,
+      length-set c.loop-clause.row _ _ ∙ c.loop-clause.invariant.3,
+      renewed_more _ _ c.in-Some.clause room s.gates.now.is_steady c.loop-clause.invariant.4,
+    )
 
 pub returns : goal.returns
 returns c = renewed_all _ _ (rw (walked_all _ _ c.loop-clause.invariant.2 c.in-None.ensures.steps.0) at c.loop-clause.invariant.4)
