@@ -8,9 +8,9 @@ ghost use Rattle.groups.specs.Wired.{Gathered, Steps};
 ghost use Rattle.groups.specs.Steady.{Steady};
 
 use crate::rows::{Row, UNKNOWN};
-use crate::wires::Wires;
+use crate::wires::{Wires, visit};
 use decoded::Plan;
-use meaning::Gate;
+use meaning::Gate::{self, And, Buf, Mux, Not, Or, Xor};
 use words::{Pair, gate_pair};
 
 // Made once a job.
@@ -57,12 +57,12 @@ impl<'a> Gates<'a> {
     {
         Gates {
             plan,
-            bufs: Wires::of(plan, Gate::Buf),
-            nots: Wires::of(plan, Gate::Not),
-            ands: Wires::of(plan, Gate::And),
-            ors: Wires::of(plan, Gate::Or),
-            xors: Wires::of(plan, Gate::Xor),
-            muxes: Wires::of(plan, Gate::Mux),
+            bufs: Wires::of(plan, Buf),
+            nots: Wires::of(plan, Not),
+            ands: Wires::of(plan, And),
+            ors: Wires::of(plan, Or),
+            xors: Wires::of(plan, Xor),
+            muxes: Wires::of(plan, Mux),
             steady: steady_row(plan),
         }
     }
@@ -73,17 +73,11 @@ impl<'a> Gates<'a> {
         ensures steps { Steps (job_in self.now.plan.now) now.now next.new }
         ensures steady { Steady (job_in self.now.plan.now) next.new }
     {
-        self.bufs
-            .visit(|p, q, r| gate_pair(Gate::Buf, p, q, r), now, next);
-        self.nots
-            .visit(|p, q, r| gate_pair(Gate::Not, p, q, r), now, next);
-        self.ands
-            .visit(|p, q, r| gate_pair(Gate::And, p, q, r), now, next);
-        self.ors
-            .visit(|p, q, r| gate_pair(Gate::Or, p, q, r), now, next);
-        self.xors
-            .visit(|p, q, r| gate_pair(Gate::Xor, p, q, r), now, next);
-        self.muxes
-            .visit(|p, q, r| gate_pair(Gate::Mux, p, q, r), now, next);
+        visit(&self.bufs, now, next, |p, q, r| gate_pair(Buf, p, q, r));
+        visit(&self.nots, now, next, |p, q, r| gate_pair(Not, p, q, r));
+        visit(&self.ands, now, next, |p, q, r| gate_pair(And, p, q, r));
+        visit(&self.ors, now, next, |p, q, r| gate_pair(Or, p, q, r));
+        visit(&self.xors, now, next, |p, q, r| gate_pair(Xor, p, q, r));
+        visit(&self.muxes, now, next, |p, q, r| gate_pair(Mux, p, q, r));
     }
 }

@@ -1,4 +1,4 @@
-// The nodes of one kind of gate, and a visit of them: what they force from one row is written to another.
+// The nodes of one kind of gate, and a visit of them.
 ghost use Rattle.std.specs.Prelude.{All};
 ghost use Rattle.decoded.specs.Meant.{job_in};
 ghost use Rattle.groups.specs.Wired.{InRow, Gathered, Visits};
@@ -42,17 +42,17 @@ impl Wires {
         }
         Wires { list }
     }
+}
 
-    // `force` is what the gate forces. Each is compiled into a loop of its own.
-    pub fn visit<F: Fn(Pair, Pair, Pair) -> Pair>(&self, force: F, now: &Row, next: &mut Row)
-        requires { F.IsAlwaysCallable force }
-        ensures { Visits (F.post force) self.now.list.items now.now next.old next.new }
-    {
-        for wire in self.list.as_slice() {
-            let p = now[usize::from(wire.p)];
-            let q = now[usize::from(wire.q)];
-            let r = now[usize::from(wire.r)];
-            next[usize::from(wire.node)] = force(p, q, r);
-        }
+// What the gates of a kind force from one row is written to another, in a loop that is compiled for that kind.
+pub fn visit<F: Fn(Pair, Pair, Pair) -> Pair>(wires: &Wires, now: &Row, next: &mut Row, force: F)
+    requires { F.IsAlwaysCallable force }
+    ensures { Visits (F.post force) wires.now.list.items now.now next.old next.new }
+{
+    for wire in wires.list.as_slice() {
+        let p = now[usize::from(wire.p)];
+        let q = now[usize::from(wire.q)];
+        let r = now[usize::from(wire.r)];
+        next[usize::from(wire.node)] = force(p, q, r);
     }
 }
