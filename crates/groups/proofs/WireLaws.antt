@@ -1,21 +1,41 @@
--- A pair stored in a row, and the nodes of one kind of gate visited one by one.
+-- The nodes of one kind of gate, gathered one by one and visited one by one.
 -- Assumes nothing.
-use Rattle.std.proofs.Common.{◌≡◌, ◌≢◌, sym, ◌∙◌, ap, subst, ◌||◌, ℕ, ◌<◌, List, [], ◌∷◌, ◌++◌, length, slice_set}
-use Rattle.std.proofs.Math.Bool.{or-false}
-use Rattle.std.proofs.lemmas.List.Elements.{Contains-append_left, Contains-push}
+use Rattle.std.proofs.Common.{◌≡◌, ◌≢◌, sym, ◌∙◌, ap, subst, true, ◌||◌, ℕ, ◌+◌, ◌<◌, List, [], ◌∷◌, ◌++◌, length, slice_set, arith, All}
+use Rattle.std.proofs.Math.Bool.{or-false, or-true}
+use Rattle.std.proofs.lemmas.List.Elements.{All-push, All-weaker, Contains-append_left, Contains-push}
 use Rattle.std.proofs.lemmas.List.Folds.{list_any-append}
 use native.Mathlib.Decide.{ℕ_discrete}
-use borrow.Author.Tests.{ne_eqb}
+use borrow.Author.Count.{below_more}
+use borrow.Author.Tests.{eq-eqb, ne_eqb}
 use lib.Dec.{eqb}
 use lib.Seq.{get_or-set_same, get_or-set_other}
+use Rattle.meaning.specs.declared.Gate.{Gate}
+use Rattle.meaning.specs.Jobs.{Job}
 use Rattle.words.specs.declared.Pair.{Pair}
 use Rattle.groups.specs.declared.wires.Wire.{Wire}
 use Rattle.groups.specs.Held.{pair_at}
-use Rattle.groups.specs.Wired.{stands_for, Visited, left, given, Visits}
+use Rattle.groups.specs.Wired.{Stands, stands_for, Gathered, Visited, left, given, Visits}
 
 -- one wire more
 stands_more : (wires : List Wire) (w : Wire) (m : ℕ) → stands_for (wires ++ w ∷ []) m ≡ (stands_for wires m || eqb w.node m)
 stands_more wires w m = list_any-append (λ (w : Wire). eqb w.node m) wires (w ∷ []) ∙ ap (λ b. stands_for wires m || b) (or-false (eqb w.node m))
+
+-- a node more: a wire stands for it if it has the gate
+module _ {j : Job} {m : ℕ} {gate : Gate} {wires : List Wire} (g : Gathered j m gate wires) where
+  one_more : All (Stands j (m + 1) gate) wires
+  one_more = All-weaker (Stands j m gate) (Stands j (m + 1) gate) (λ w s. record { below = omega (arith, s.below); is = s.is }) wires g.stands
+
+  pub gathered_skip : (j.netlist.node m).gate ≢ gate → Gathered j (m + 1) gate wires
+  gathered_skip other = record { stands = one_more; all = below_more (λ k. (j.netlist.node k).gate ≡ gate → stands_for wires k ≡ true) m g.all (λ e. absurd (other e)) }
+
+  pub gathered_more : (w : Wire) → w.node ≡ m → j.netlist.node m ≡ record { gate = gate; p = w.p; q = w.q; r = w.r } → Gathered j (m + 1) gate (wires ++ w ∷ [])
+  gathered_more w here is =
+      record {
+        stands = All-push (Stands j (m + 1) gate) wires w one_more (record { below = omega arith; is = ap j.netlist.node here ∙ is });
+        all = below_more (λ k. (j.netlist.node k).gate ≡ gate → stands_for (wires ++ w ∷ []) k ≡ true) m
+            (λ k l e. stands_more wires w k ∙ rw (g.all k l e))
+            (λ e. stands_more wires w m ∙ rw (eq-eqb w.node m here) (or-true (stands_for wires m)));
+      }
 
 -- a pair is stored: there it is new, elsewhere as it was
 pub stored_there : (row : List Pair) (at : ℕ) (new : Pair) → at < length row → pair_at (slice_set row at new) at ≡ new
