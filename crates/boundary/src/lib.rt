@@ -4,6 +4,7 @@
 mod answers;
 pub mod asking;
 pub mod packing;
+pub mod rows;
 mod telling;
 pub mod unpacking;
 pub mod wordings;
