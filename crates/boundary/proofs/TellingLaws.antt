@@ -1,12 +1,11 @@
 -- The laws of telling: ten numbers, a word's first, and the four low bytes of each.
 -- Assumes nothing.
-use Rattle.std.proofs.Common.{◌≡◌, ℕ, zero, suc, ◌-◌, ◌/◌, ◌%◌, ◌<◌, ◌≤◌, List, [], ◌∷◌, ◌++◌, length, get_or, drop, refl, sym, ap, ◌∙◌, arith, length-append, replicate}
+use Rattle.std.proofs.Common.{◌≡◌, ℕ, zero, suc, ◌-◌, ◌<◌, ◌≤◌, List, ◌∷◌, ◌++◌, length, get_or, drop, refl, ap, ◌∙◌, arith, length-append, replicate}
 use Rattle.std.specs.Int.{to_le_bytes, w64}
-use Rattle.std.proofs.lemmas.List.{drop-replicate, get_or-replicate, get_or_past, get_or-append_right, length-replicate}
-use Rattle.std.proofs.Math.ListN.{get_or-append}
-use native.Mathlib.Decide.{dec_lt}
+use Rattle.std.proofs.lemmas.List.{drop-replicate, get_or-replicate, get_or_past, length-replicate}
 use Rattle.scans.specs.Lists.{list_of}
 use Rattle.scans.proofs.Lists.{list_of_is}
+use Rattle.std.proofs.lemmas.Grind.{common_steps}
 use Rattle.std.specs.Prelude.{true, leb}
 use borrow.Author.Tests.{le-leb}
 use Rattle.meaning.specs.Stated.{Word, Stated, state}
@@ -27,17 +26,8 @@ low_byte n (suc (suc (suc (suc o)))) h = absurd (omega arith)
 abbrev pub zeros : ℕ → List ℕ
 zeros n = replicate n 0
 
-zeros_past : (n i : ℕ) → get_or (zeros n) i 0 ≡ 0
-zeros_past n i = go (dec_lt i n)
-  where
-    go : Dec (i < n) → get_or (zeros n) i 0 ≡ 0
-    go (yes h) = get_or-replicate n i 0 0 h
-    go (no h) = get_or_past (zeros n) i 0 (omega (arith, length-replicate {A = ℕ}))
-
 padded_at : (ns : List ℕ) (m i : ℕ) → get_or (ns ++ zeros m) i 0 ≡ get_or ns i 0
-padded_at [] m i = zeros_past m i
-padded_at (n ∷ ns) m zero = refl
-padded_at (n ∷ ns) m (suc i) = padded_at ns m i
+padded_at ns m i = grind (arith, common_steps, get_or-replicate {A = ℕ}, get_or_past {X = ℕ})
 
 pub padded : (w : Word) (ns : List ℕ) {n : ℕ} → n ≡ length ns → n ≤ 9 → word_number w ∷ (ns ++ drop n (zeros 9)) ≡ ten_numbers (state w ns)
 unfolding ten_numbers

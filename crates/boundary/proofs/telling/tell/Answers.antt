@@ -1,6 +1,6 @@
 -- `tell`: the first of the ten numbers is the word's, and each byte is one of theirs.
 -- Assumes nothing.
-use Rattle.std.proofs.Common.{◌≡◌, ℕ, ◌/◌, ◌%◌, ◌<◌, ap, ◌∙◌, get_or, length, length-set, arith, rules}
+use Rattle.std.proofs.Common.{◌≡◌, ℕ, ◌/◌, ◌%◌, ap, ◌∙◌, get_or, length-set, arith}
 use Rattle.std.proofs.lemmas.List.Edits.{fill_by_more}
 use Rattle.scans.specs.Lists.{list_of}
 use Rattle.scans.proofs.Lists.{list_of_is}
