@@ -11,6 +11,7 @@ use assertions::{TextRefusal, Written};
 use meaning::{CaseAnswer, JobAnswer};
 use stored::{Refusal, Size};
 
+// The word of an answer, numbered as include/kelpanvil.h has it.
 #[derive(Clone, Copy)]
 enum Word {
     Done = 1,
