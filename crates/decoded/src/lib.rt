@@ -18,6 +18,7 @@ use stored::Size;
 
 // What running a job looks at. The clauses of a time are a chain: its first is `heads` of the time, and each clause's next is
 // in `nexts`; c stands for none.
+#[derive(Drop)]
 pub struct Plan {
     pub size: Size,
     pub nodes: [Node; 1008],

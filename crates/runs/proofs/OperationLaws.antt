@@ -1,18 +1,10 @@
 -- Each operation after reading: what reading refuses is refused, and otherwise the rest of its table decides.
 -- Assumes nothing.
 use Rattle.std.specs.Prelude.{Result, Ok, Err}
-use Rattle.meaning.specs.declared.CaseAnswer.{CaseAnswer}
-use mathlib.Core.Path.{◌≡◌, refl, sym, ◌∙◌, ap, subst}
-use mathlib.Core.Bool.{Bool, true, false, not}
-use mathlib.Core.List.{List, [], ◌∷◌, ◌++◌}
-use Prim.Native.Nat.{ℕ, zero, suc, ◌^◌, ◌≤◌, ◌<◌}
-use native.Mathlib.Omega.{arith}
-use borrow.Author.Tests.{lt-ltb, le-ltb, le-leb, lt-leb}
-use lib.Dec.{leb}
-use lib.ListN.{length, drop, length-append}
-use Rattle.scans.specs.First.{each}
-use Rattle.scans.specs.Refusals.{whole, in_order}
-use Rattle.scans.proofs.Order.{on_failed, on_passed, on_end}
+use Rattle.std.proofs.Common.{◌≡◌, refl, sym, ◌∙◌, ap, Bool, true, false, ℕ, zero, suc, ◌+◌, ◌^◌, ◌≤◌, List, [], ◌∷◌, ◌++◌, length, drop, ltb, leb, arith}
+use lib.ListN.{length-append}
+use Rattle.scans.specs.First.{first_bad, each}
+use Rattle.scans.specs.Refusals.{whole, unless_at, in_order}
 use Rattle.scans.proofs.Exactly.{in_order_append, refused_still, passed_on}
 use Rattle.meaning.specs.declared.JobAnswer.{JobAnswer}
 use Rattle.meaning.specs.Jobs.{Job}
@@ -23,140 +15,117 @@ use Rattle.meaning.specs.Stated.{Stated, stated_case, stated_job}
 use Rattle.stored.specs.declared.Size.{Size}
 use Rattle.stored.specs.declared.Refusal.{Refusal}
 use Rattle.stored.specs.Layout.{header_sizes}
-use Rattle.stored.specs.Reading.{refused, accepted_as, read_answer, lent, stated_read}
+use Rattle.stored.specs.Reading.{refused, accepted_as, read_answer, lent}
 use Rattle.stored.specs.Packing.{written}
+use Rattle.stored.specs.Checked.{checked, followed}
 use Rattle.stored.proofs.Accepted.{refused_done, accepted_sizes}
-use Rattle.verdicts.specs.Running.{job_in, check_stages, check_answer, case_stages, one_case_answer, row_answer, stated_checked, stated_case_checked, stated_row, GivesRow}
-use Rattle.ready.specs.Readied.{Ready, Readied}
-use Rattle.runs.specs.Steps.{Runnable, job_of_lists, case_from11, row_from12, row_answer_from11, GivesRowFrom11}
+use Rattle.stored.proofs.CheckedLaws.{checking}
+use Rattle.decoded.specs.declared.Plan.{Plan}
+use Rattle.decoded.specs.Meant.{job_in as plan_job}
+use Rattle.verdicts.specs.Running.{job_in, check_stages, check_answer, case_stages, one_case_answer, row_answer, stated_checked, stated_case_checked, GivesRow}
+use Rattle.ready.specs.Readied.{Ready}
 
--- a table that begins as reading's does
-module _ (s : List ℕ) where
-  refused_by : {m b l : ℕ} → read_answer s ≡ refused m b l → (next : Stated) → in_order refused (check_stages s) next ≡ refused m b l
+module _ (job : List ℕ) where
+  -- what reading refuses is refused by each table that begins as reading's does
+  refused_by : {m b l : ℕ} → read_answer job ≡ refused m b l → (next : Stated) → in_order refused (check_stages job) next ≡ refused m b l
   unfolding read_answer
-  refused_by {m} {b} {l} e next = refused_still refused (check_stages s) (λ f. refused_done m b l (sym f)) e next
+  refused_by {m} {b} {l} e next = refused_still refused (check_stages job) (λ f. refused_done m b l (sym f)) e next
 
-  passed_by : {z : Size} → read_answer s ≡ accepted_as z → (next : Stated) → in_order refused (check_stages s) next ≡ next
-  unfolding read_answer
-  passed_by {z} e next = passed_on refused (check_stages s) (λ m b l. refused_done m b l) (e ∙ ap accepted_as (accepted_sizes s z e)) next
-
-  -- one case and row, cut after reading
-  case_cut : (x : ℕ) → one_case_answer s x ≡ in_order refused (check_stages s) (in_order refused (case_from11 (header_sizes s) x) (stated_case (case_answer (job_in s) x)))
+  -- the tables of one case and row, cut after reading
+  case_cut : (x : ℕ) → one_case_answer job x ≡ in_order refused (check_stages job) (in_order refused (whole 11 (ltb x (2 ^ (header_sizes job).k)) ∷ []) (stated_case (case_answer (job_in job) x)))
   unfolding one_case_answer
-  case_cut x = in_order_append refused (check_stages s) (case_from11 (header_sizes s) x) (stated_case (case_answer (job_in s) x))
+  case_cut x = in_order_append refused (check_stages job) _ _
 
-  row_cut : (x t room : ℕ) → row_answer s x t room ≡ in_order refused (check_stages s) (row_answer_from11 (job_in s) (header_sizes s) x t room)
-  unfolding row_answer row_answer_from11
-  row_cut x t room =
-      let z = header_sizes s in
-      in_order_append refused (case_stages s x) (row_from12 (job_in s) z x t room) (written z.n)
-      ∙ in_order_append refused (check_stages s) (case_from11 z x) (in_order refused (row_from12 (job_in s) z x t room) (written z.n))
-      ∙ ap (in_order refused (check_stages s)) (sym (in_order_append refused (case_from11 z x) (row_from12 (job_in s) z x t room) (written z.n)))
+  row_cut : (x t room : ℕ) → row_answer job x t room
+      ≡ in_order refused (check_stages job) (in_order refused (whole 11 (ltb x (2 ^ (header_sizes job).k)) ∷ [])
+        (in_order refused (whole 12 (leb t 255) ∷ whole 13 (leb (header_sizes job).n room) ∷ whole 14 (each (row_clear (job_in job) x) (suc t)) ∷ []) (written (header_sizes job).n)))
+  unfolding row_answer
+  row_cut x t room = in_order_append refused (case_stages job x) _ _ ∙ in_order_append refused (check_stages job) _ _
 
--- a job that reading refuses, with what making it ready gave
-module _ {job nodes expressions clauses heads nexts : List ℕ} {r : Result Size Refusal} {y : Refusal} (readied : Readied job nodes expressions clauses heads nexts r) (q : r ≡ Err y) where
-  reads : read_answer job ≡ refused y.number y.block y.«record»
-  reads = sym readied.answer ∙ ap stated_read q
-
-  pub check_refuses : stated_checked (Err y) ≡ check_answer job
-  unfolding check_answer
-  check_refuses = sym (refused_by job reads _)
-
-  pub case_refuses : (x : ℕ) → stated_case_checked (Err y) ≡ one_case_answer job x
-  case_refuses x = sym (case_cut job x ∙ refused_by job reads _)
-
-  pub row_refuses : (x t : ℕ) (out : List ℕ) → GivesRow job x t out out (Err y)
+  -- a refusal leaves the output as it was
+  pub row_kept : (x t : ℕ) (out : List ℕ) (y : Refusal) → row_answer job x t (length out) ≡ refused y.number y.block y.«record» → GivesRow job x t out out (Err y)
   unfolding lent
-  row_refuses x t out =
-      let e = row_cut job x t (length out) ∙ refused_by job reads _ in
-      record { answer = sym e; out_is = rw e }
+  row_kept x t out y e = record { answer = sym e; out_is = rw e }
 
--- a job that reading accepts
-module _ {job nodes expressions clauses heads nexts : List ℕ} {r : Result Size Refusal} {z : Size} (readied : Readied job nodes expressions clauses heads nexts r) (q : r ≡ Ok z) where
-  ready : Ready job z nodes expressions clauses heads nexts
-  ready = readied.lists z q
+  module _ {y : Refusal} (reads : read_answer job ≡ refused y.number y.block y.«record») where
+    pub check_refused : stated_checked (Err y) ≡ check_answer job
+    unfolding check_answer
+    check_refused = sym (refused_by reads _)
 
-  pub runnable : Runnable z nodes expressions clauses heads nexts
-  runnable = record { decoded = ready.decoded; chained = ready.chained }
+    pub case_refused : (x : ℕ) → stated_case_checked (Err y) ≡ one_case_answer job x
+    case_refused x = sym (case_cut x ∙ refused_by reads _)
 
-  sizes_are : z ≡ header_sizes job
-  sizes_are = accepted_sizes job z ready.read
+    pub row_refused : (x t : ℕ) (out : List ℕ) → GivesRow job x t out out (Err y)
+    row_refused x t out = row_kept x t out y (row_cut x t (length out) ∙ refused_by reads _)
 
-  pub check_answers : {a : JobAnswer} → a ≡ job_answer (job_of_lists z nodes expressions clauses) → stated_checked (Ok a) ≡ check_answer job
-  unfolding check_answer
-  check_answers e = ap stated_job (e ∙ ap job_answer ready.means) ∙ sym (passed_by job ready.read _)
+-- a test that refuses, and one that is passed
+module _ {r : Result Unit Refusal} (next : Stated) where
+  pub failed : {y : Refusal} → r ≡ Err y → followed r next ≡ refused y.number y.block y.«record»
+  failed e = ap (λ q. followed q next) e
 
-  pub case_answers : (c : Result CaseAnswer Refusal) (x : ℕ) → stated_case_checked c ≡ in_order refused (case_from11 z x) (stated_case (case_answer (job_of_lists z nodes expressions clauses) x)) → stated_case_checked c ≡ one_case_answer job x
-  case_answers c x e =
-      e
-      ∙ ap (λ j. in_order refused (case_from11 z x) (stated_case (case_answer j x))) ready.means
-      ∙ ap (λ y. in_order refused (case_from11 y x) (stated_case (case_answer (job_in job) x))) sizes_are
-      ∙ sym (case_cut job x ∙ passed_by job ready.read _)
+  pub passed : {u : Unit {0}} → r ≡ Ok u → followed r next ≡ next
+  passed e = ap (λ q. followed q next) e
 
-  pub row_answers : {c : Result ℕ Refusal} {x t : ℕ} {out out' : List ℕ} → GivesRowFrom11 (job_of_lists z nodes expressions clauses) z x t out out' c → GivesRow job x t out out' c
-  row_answers {x = x} {t} {out} g =
-      let e : row_answer_from11 (job_of_lists z nodes expressions clauses) z x t (length out) ≡ row_answer job x t (length out) =
-      ap (λ j. row_answer_from11 j z x t (length out)) ready.means
-      ∙ ap (λ y. row_answer_from11 (job_in job) y x t (length out)) sizes_are
-      ∙ sym (row_cut job x t (length out) ∙ passed_by job ready.read _) in
-      record {
-        answer = g.answer ∙ e;
-        out_is = g.out_is ∙ ap (λ a. lent a (row_numbers (job_of_lists z nodes expressions clauses) x t z.n) out) e
-            ∙ ap (λ j. lent (row_answer job x t (length out)) (row_numbers j x t z.n) out) ready.means
-            ∙ ap (λ y. lent (row_answer job x t (length out)) (row_numbers (job_in job) x t y.n) out) sizes_are;
-      }
+-- the same of a test of the whole, by what it asks
+module _ (number : ℕ) {t : Bool} (next : Stated) where
+  pub whole_failed : t ≡ false → followed (checked (whole number t)) next ≡ refused number 0 0
+  unfolding checked unless_at first_bad
+  whole_failed e = rw e
 
--- a refusal as it is stated
-abbrev pub refused_as : Refusal → Stated
-refused_as y = refused y.number y.block y.«record»
-
--- 11 CASE
-pub case_outside : (z : Size) {x cases : ℕ} (answer : Stated) → cases ≡ 2 ^ z.k → cases ≤ x → refused 11 0 0 ≡ in_order refused (case_from11 z x) answer
-case_outside z {x} answer e h = on_failed refused [] answer 11 {t = false} (sym (le-ltb x (2 ^ z.k) (omega (arith, e)))) refl refl
-
-pub case_inside : (z : Size) {x cases : ℕ} {a answer : Stated} → cases ≡ 2 ^ z.k → x < cases → a ≡ answer → a ≡ in_order refused (case_from11 z x) answer
-case_inside z {x} {answer = answer} e h p = on_passed refused [] answer 11 {t = true} (sym (lt-ltb x (2 ^ z.k) (omega (arith, e)))) refl (on_end refused answer p)
+  pub whole_passed : t ≡ true → followed (checked (whole number t)) next ≡ next
+  unfolding checked unless_at first_bad
+  whole_passed e = rw e
 
 -- a row has a number for each node
-row_length : (j : Job) (x t n : ℕ) → length (row_numbers j x t n) ≡ n
+pub row_length : (j : Job) (x t n : ℕ) → length (row_numbers j x t n) ≡ n
 unfolding row_numbers
 row_length j x t zero = refl
 row_length j x t (suc n) = length-append (row_numbers j x t n) _ ∙ omega (arith, row_length j x t n)
 
--- the table of a row from 11 on, test by test
-module _ (j : Job) (z : Size) (x t : ℕ) (out : List ℕ) where
-  kept : {r : Result ℕ Refusal} {number : ℕ} → stated_row r ≡ refused number 0 0 → refused number 0 0 ≡ row_answer_from11 j z x t (length out) → GivesRowFrom11 j z x t out out r
-  unfolding lent
-  kept p e = record { answer = p ∙ e; out_is = rw (← e) }
+-- a job that reading accepts
+module _ (job : List ℕ) (p : Plan) (ready : Ready job p) where
+  size_is : p.size ≡ header_sizes job
+  size_is = accepted_sizes job p.size ready.read
 
-  pub row_11 : {cases : ℕ} {r : Result ℕ Refusal} → cases ≡ 2 ^ z.k → cases ≤ x → stated_row r ≡ refused 11 0 0 → GivesRowFrom11 j z x t out out r
-  unfolding row_answer_from11
-  row_11 e h p = kept p (on_failed refused _ (written z.n) 11 {t = false} (sym (le-ltb x (2 ^ z.k) (omega (arith, e)))) refl refl)
+  passed_by : (next : Stated) → in_order refused (check_stages job) next ≡ next
+  unfolding read_answer
+  passed_by next = passed_on refused (check_stages job) (λ m b l. refused_done m b l) (ready.read ∙ ap accepted_as size_is) next
 
-  module _ {cases : ℕ} (e : cases ≡ 2 ^ z.k) (inside : x < cases) where
-    past_11 : {a : Stated} → a ≡ in_order refused (row_from12 j z x t (length out)) (written z.n) → a ≡ row_answer_from11 j z x t (length out)
-    unfolding row_answer_from11
-    past_11 p = on_passed refused _ (written z.n) 11 {t = true} (sym (lt-ltb x (2 ^ z.k) (omega (arith, e)))) refl p
+  pub check_given : {a : JobAnswer} → a ≡ job_answer (plan_job p) → stated_checked (Ok a) ≡ check_answer job
+  unfolding check_answer
+  check_given e = ap stated_job (e ∙ ap job_answer ready.means) ∙ sym (passed_by _)
 
-    pub row_12 : {r : Result ℕ Refusal} → 255 < t → stated_row r ≡ refused 12 0 0 → GivesRowFrom11 j z x t out out r
-    row_12 h p = kept p (past_11 (on_failed refused _ (written z.n) 12 {t = false} (sym (lt-leb t 255 h)) refl refl))
+  -- the test of one case, and then its answer
+  pub case_table : (x : ℕ) {r : Result Unit Refusal} → r ≡ checked (whole 11 (ltb x (2 ^ p.size.k))) → one_case_answer job x ≡ followed r (stated_case (case_answer (plan_job p) x))
+  case_table x {r} e =
+      let w = stated_case (case_answer (job_in job) x) in
+      let first : in_order refused (whole 11 (ltb x (2 ^ (header_sizes job).k)) ∷ []) w ≡ followed (checked (whole 11 (ltb x (2 ^ (header_sizes job).k)))) w = simp checking in
+      case_cut job x ∙ passed_by _ ∙ first
+      ∙ ap (λ z. followed (checked (whole 11 (ltb x (2 ^ z.k)))) w) (sym size_is)
+      ∙ ap (λ j. followed (checked (whole 11 (ltb x (2 ^ p.size.k)))) (stated_case (case_answer j x))) (sym ready.means)
+      ∙ ap (λ q. followed q (stated_case (case_answer (plan_job p) x))) (sym e)
 
-    module _ (timely : t ≤ 255) where
-      past_12 : {a : Stated} → a ≡ in_order refused (whole 13 (leb z.n (length out)) ∷ whole 14 (each (row_clear j x) (suc t)) ∷ []) (written z.n) → a ≡ row_answer_from11 j z x t (length out)
-      past_12 p = past_11 (on_passed refused _ (written z.n) 12 {t = true} (sym (le-leb t 255 timely)) refl p)
+  -- the four tests of a row, and then the bytes written
+  module _ (x t : ℕ) (out : List ℕ) where
+    abbrev tests : Size → Job → Stated
+    tests z j =
+        followed (checked (whole 11 (ltb x (2 ^ z.k)))) (followed (checked (whole 12 (leb t 255)))
+        (followed (checked (whole 13 (leb z.n (length out)))) (followed (checked (whole 14 (each (row_clear j x) (suc t)))) (written z.n))))
 
-      pub row_13 : {r : Result ℕ Refusal} → length out < z.n → stated_row r ≡ refused 13 0 0 → GivesRowFrom11 j z x t out out r
-      row_13 h p = kept p (past_12 (on_failed refused _ (written z.n) 13 {t = false} (sym (lt-leb z.n (length out) h)) refl refl))
+    listed : (z : Size) (j : Job)
+        → in_order refused (whole 11 (ltb x (2 ^ z.k)) ∷ []) (in_order refused (whole 12 (leb t 255) ∷ whole 13 (leb z.n (length out)) ∷ whole 14 (each (row_clear j x) (suc t)) ∷ []) (written z.n)) ≡ tests z j
+    listed z j = simp checking
 
-      module _ (room : z.n ≤ length out) where
-        past_13 : {a : Stated} → a ≡ in_order refused (whole 14 (each (row_clear j x) (suc t)) ∷ []) (written z.n) → a ≡ row_answer_from11 j z x t (length out)
-        past_13 p = past_12 (on_passed refused _ (written z.n) 13 {t = true} (sym (le-leb z.n (length out) room)) refl p)
+    abbrev clear : Bool
+    clear = each (row_clear (plan_job p) x) (suc t)
 
-        pub row_14 : {r : Result ℕ Refusal} {b : Bool} {out' : List ℕ} → b ≡ each (row_clear j x) (suc t) → not b ≡ true → out' ≡ out → stated_row r ≡ refused 14 0 0 → GivesRowFrom11 j z x t out out' r
-        row_14 {r} d h same p = subst (λ o. GivesRowFrom11 j z x t out o r) (sym same) (kept p (past_13 (on_failed refused [] (written z.n) 14 d h refl)))
+    pub row_table : {r₁ r₂ r₃ : Result Unit Refusal} → r₁ ≡ checked (whole 11 (ltb x (2 ^ p.size.k))) → r₂ ≡ checked (whole 12 (leb t 255)) → r₃ ≡ checked (whole 13 (leb p.size.n (length out)))
+        → row_answer job x t (length out) ≡ followed r₁ (followed r₂ (followed r₃ (followed (checked (whole 14 clear)) (written p.size.n))))
+    row_table {r₁} {r₂} {r₃} a b c =
+        let last : tests p.size (plan_job p) ≡ followed r₁ (followed r₂ (followed r₃ (followed (checked (whole 14 clear)) (written p.size.n)))) = rw (a, b, c) in
+        row_cut job x t (length out) ∙ passed_by _ ∙ listed (header_sizes job) (job_in job)
+        ∙ ap (λ z. tests z (job_in job)) (sym size_is) ∙ ap (tests p.size) (sym ready.means) ∙ last
 
-        pub row_given : {r : Result ℕ Refusal} {b : Bool} {out' : List ℕ} → b ≡ each (row_clear j x) (suc t) → not b ≡ false → out' ≡ row_numbers j x t z.n ++ drop z.n out → stated_row r ≡ written z.n → GivesRowFrom11 j z x t out out' r
-        unfolding lent
-        row_given d h is p =
-            let a = past_13 (on_passed refused [] (written z.n) 14 d h (on_end refused (written z.n) refl)) in
-            record { answer = p ∙ a; out_is = is ∙ rw (← a, row_length j x t z.n) }
+    pub row_given : {out' : List ℕ} → row_answer job x t (length out) ≡ written p.size.n → out' ≡ row_numbers (plan_job p) x t p.size.n ++ drop p.size.n out → GivesRow job x t out out' (Ok p.size.n)
+    unfolding lent
+    row_given e is = record { answer = sym e; out_is = is ∙ rw (e, ← size_is, ← ready.means, row_length (plan_job p) x t p.size.n) }

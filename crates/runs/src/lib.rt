@@ -68,15 +68,10 @@ fn decide(plan: &Plan) -> JobAnswer
 {
     let counted = count_cases(plan);
     let counts = counts_of(cases_of(plan), counted);
-    if counts.failing > 0 {
-        let x = counted.failing.least;
-        return decided(counts, x, case_answer(plan, x));
+    match counted.failing.least.or(counted.empty.least) {
+        Some(case) => decided(counts, case, case_answer(plan, case)),
+        None => JobAnswer::Holds(counts),
     }
-    if counts.empty > 0 {
-        let x = counted.empty.least;
-        return decided(counts, x, case_answer(plan, x));
-    }
-    JobAnswer::Holds(counts)
 }
 
 // The whole job.

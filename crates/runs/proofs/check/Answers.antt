@@ -1,13 +1,14 @@
--- `check`: refused by reading, or decided.
+-- What reading refuses is refused, and any other job is decided.
 -- Assumes nothing.
-use Rattle.runs.proofs.OperationLaws.{check_refuses, runnable, check_answers}
+use Rattle.std.proofs.Common.{◌≡◌, sym, ◌∙◌, arith}
+use Rattle.std.proofs.lemmas.Result.{err_from_is_err_and}
+use Rattle.runs.proofs.OperationLaws.{check_refused, check_given}
 use Rattle.runs.proofs.check.Goals as goal
 
-pub decide-requires : goal.decide-requires
-decide-requires c = runnable c.make_ready.ensures c.in-Accepted.is
+pub returns-in_err-make_ready : goal.returns-in_err-make_ready
+returns-in_err-make_ready c =
+    let p = err_from_is_err_and c.from_residual.result c.from_residual.ensures.1 in
+    rw (p.1, p.2) (check_refused c.args.job.now c.in_err-make_ready.ensures)
 
-pub returns-in-Refused : goal.returns-in-Refused
-returns-in-Refused c = check_refuses c.make_ready.ensures c.in-Refused.is
-
-pub returns-in-Accepted : goal.returns-in-Accepted
-returns-in-Accepted c = check_answers c.make_ready.ensures c.in-Accepted.is c.decide.ensures
+pub returns : goal.returns
+returns c = check_given c.args.job.now _ c.in_ok-make_ready.ensures c.decide.ensures
