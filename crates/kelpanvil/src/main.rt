@@ -24,7 +24,7 @@ fn read_input(input: &mut Stdin, buffer: &mut [u8]) -> io::Result<usize>
     Ok(size)
 }
 
-// The line for the bytes of a job.
+// The line for the bytes of a job, at the front of `out`, and its length.
 fn tell(job: &[u8], out: &mut [u8]) -> usize
     ensures { Tells job.now out.old out.new result }
 {
