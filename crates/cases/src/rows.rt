@@ -50,14 +50,14 @@ fn forced_row(plan: &Plan, row: &Row) -> Row
     next
 }
 
-// A case and the row of one time after another.
+// A case, and its rows one after the other.
 #[derive(Drop)]
 pub struct Run<'a> {
     plan: &'a Plan,
     case: usize,
     // The guards' words of the group of 64 cases that this one is in.
     guards: [u64; 504],
-    // The time of the next row.
+    // The time of the next row. At hand is the row before it; at time 0 there is none yet.
     next: usize,
     row: Row,
     ghost guarded: { Guarded (job_in plan.now) plan.now.size.e guards (case % 64) case },
@@ -117,8 +117,8 @@ impl<'a> Run<'a> {
     {
         for clause in self.plan.clauses_at(self.next) {
             if self.counts(Side::Stimulus, clause) {
-                let node = usize::from(clause.node);
-                row[node] = joined(row[node], clause.value);
+                let cell = &mut row[usize::from(clause.node)];
+                *cell = joined(*cell, clause.value);
             }
         }
     }
