@@ -1,9 +1,6 @@
-pub mod Pairs
-pub mod Walks
-pub mod SortLaws
-pub mod StepLaws
+pub mod WireLaws
 pub mod SteadyLaws
-pub mod NarrowLaws
+pub mod Timed
 pub mod StimulusLaws
 pub mod ExpectLaws
 pub mod TurnLaws

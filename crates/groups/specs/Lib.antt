@@ -1,4 +1,5 @@
+pub mod Grouped
 pub mod Held
-pub mod Turns
-pub mod Sorted
+pub mod Wired
 pub mod Steady
+pub mod Turns

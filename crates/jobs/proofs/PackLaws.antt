@@ -1,7 +1,7 @@
 -- The laws of packing: each refusal leaves the output as it was, and otherwise it holds the stored job.
 -- Assumes nothing.
 use Rattle.std.specs.Prelude.{Result, Ok, Err, None}
-use Rattle.std.proofs.Common.{◌≡◌, ℕ, ◌*◌, ◌<◌, ◌≤◌, Bool, true, leb, List, [], ◌∷◌, ◌++◌, length, drop, refl, sym, ap, ◌∙◌, arith, leb-true}
+use Rattle.std.proofs.Common.{◌≡◌, ℕ, ◌*◌, ◌<◌, ◌≤◌, Bool, true, leb, List, [], ◌∷◌, ◌++◌, length, drop, sym, ap, ◌∙◌, arith, leb-true}
 use Rattle.scans.specs.Refusals.{whole, in_order}
 use Rattle.scans.proofs.Exactly.{in_order_append}
 use Rattle.stored.specs.declared.Size.{Size}

@@ -1,7 +1,7 @@
 -- The table of reading, test by test.
 -- Assumes nothing.
 use Rattle.std.specs.Prelude.{Result}
-use Rattle.std.proofs.Common.{◌≡◌, ℕ, ◌/◌, Bool, List, length, refl}
+use Rattle.std.proofs.Common.{◌≡◌, ℕ, ◌/◌, Bool, List, length}
 use Rattle.scans.specs.Refusals.{whole, in_order}
 use Rattle.stored.specs.declared.Refusal.{Refusal}
 use Rattle.stored.specs.Layout.{header_sizes, records_of}

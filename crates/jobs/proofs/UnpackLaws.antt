@@ -1,7 +1,7 @@
 -- The laws of unpacking: what reading refuses is refused, a list too short is refused, and otherwise the three lists hold the records.
 -- Assumes nothing.
 use Rattle.std.specs.Prelude.{Result, Ok, Err}
-use Rattle.std.proofs.Common.{◌≡◌, ℕ, ◌*◌, ◌≤◌, Bool, true, List, [], ◌∷◌, ◌++◌, length, drop, refl, sym, ap, ◌∙◌, arith}
+use Rattle.std.proofs.Common.{◌≡◌, ℕ, ◌*◌, ◌≤◌, Bool, true, List, [], ◌∷◌, ◌++◌, length, drop, sym, ap, ◌∙◌}
 use Rattle.scans.specs.Refusals.{whole, in_order}
 use Rattle.scans.proofs.Bools.{says}
 use Rattle.scans.proofs.Exactly.{in_order_append, refused_still, passed_on}

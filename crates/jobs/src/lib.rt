@@ -21,8 +21,7 @@ use storing::Records;
 pub fn sizes(job: &[u8]) -> Result<Size, Refusal>
     ensures { stated_read result ≡ read_answer job.now }
 {
-    let layout = read(job)?;
-    Ok(layout.size)
+    read(job).map(|layout| layout.size)
 }
 
 #[tactic(auto, unfolding(stored::specs::Layout::record_byte))]

@@ -1,36 +1,29 @@
 -- One more group: the count goes on, and the least case stays or is found in it.
 -- Assumes nothing.
-use mathlib.Core.Path.{◌≡◌, refl, sym, ◌∙◌, ap, subst}
-use mathlib.Core.Bool.{Bool, true, false, not, ◌&&◌}
-use Prim.Native.Nat.{ℕ, ◌+◌, ◌*◌, ◌-◌, ◌^◌, ◌≤◌, ◌<◌, min}
+use Rattle.std.proofs.Common.{◌≡◌, refl, sym, ◌∙◌, ap, subst, Bool, true, false, not, ◌&&◌, Option, Some, None, MatchOption, ℕ, ◌+◌, ◌*◌, ◌-◌, ◌%◌, ◌^◌, ◌≤◌, ◌<◌, min, bit_and, arith}
+use Rattle.std.specs.Int.{div_ceil}
+use Rattle.std.specs.Option.{option_or}
 use native.Mathlib.Decide.{dec_lt}
-use native.Mathlib.Omega.{arith}
-use borrow.Author.Tests.{lt-ltb, le-ltb, ltb-true}
-use lib.Bits.{bit_and}
+use borrow.Author.Tests.{lt-ltb, le-ltb, ltb-true, not-true, not-false}
 use lib.Dec.{ltb}
 use lib.Pow.{pow-add, pow_mono}
+use Rattle.scans.specs.First.{first_bad}
 use Rattle.scans.proofs.Bools.{left_true, right_true}
-use Rattle.scans.proofs.Search.{each_clear}
+use Rattle.scans.proofs.Search.{clear_each, each_clear, stopped_at, at_stopped}
 use Rattle.meaning.specs.Guards.{bit_of}
 use Rattle.meaning.specs.Answers.{tally, least}
-use Rattle.meaning.proofs.Tallies.{tally_le, tally_none, none_tally, tally_same, tally_split, Least, least_of, least_is}
+use Rattle.meaning.proofs.Tallies.{tally_le, none_tally, some_tally, tally_same, tally_split, Least}
 use Rattle.words.specs.Places.{UsedPlaces}
 use Rattle.words.proofs.Bits.{bit_and_lem, zero_none}
 use Rattle.tallies.specs.declared.Found.{Found}
 use Rattle.tallies.specs.Counting.{FoundIn, Covers}
 
--- where no case passes the test there is no least
-none_least : (f : ℕ → Bool) (m : ℕ) → ((i : ℕ) → i < m → f i ≡ false) → least f m ≡ 0
-unfolding least
-none_least f m h = rw (each_clear (λ x. not (f x)) m (λ i l. ap not (h i l)))
-
-found_none : (f : ℕ → Bool) → FoundIn f 0 (record { count = 0; least = 0 })
-unfolding tally
-found_none f = record { count_is = refl; least_is = sym (none_least f 0 (λ i l. absurd (omega arith))) }
-
 module _ (f : ℕ → Bool) (cases g w : ℕ) (h : 64 * g < cases) (c : Covers f cases g w) where
   abbrev end : ℕ
   end = min (64 * (g + 1)) cases
+
+  abbrev fails : ℕ → Bool
+  fails x = not (f x)
 
   -- a place within the cases says what the test says
   in_cases : (i : ℕ) → i < 64 → 64 * g + i < cases → bit_of w i ≡ f (64 * g + i)
@@ -39,7 +32,7 @@ module _ (f : ℕ → Bool) (cases g w : ℕ) (h : 64 * g < cases) (c : Covers f
   past_cases : (i : ℕ) → i < 64 → cases ≤ 64 * g + i → bit_of w i ≡ false
   past_cases i l k = c.at i l ∙ ap (λ b. b && f (64 * g + i)) (le-ltb (64 * g + i) cases k)
 
-  pub count_more : (m : ℕ) → m ≡ tally f (64 * g) → m + tally (bit_of w) 64 ≡ tally f end
+  count_more : (m : ℕ) → m ≡ tally f (64 * g) → m + tally (bit_of w) 64 ≡ tally f end
   count_more m e =
       let width : ℕ = end - 64 * g in
       let a : end ≡ 64 * g + width = omega arith in
@@ -50,41 +43,48 @@ module _ (f : ℕ → Bool) (cases g w : ℕ) (h : 64 * g < cases) (c : Covers f
       let whole : tally f end ≡ tally f (64 * g) + tally (λ i. f (64 * g + i)) width = ap (tally f) a ∙ tally_split f (64 * g) width in
       omega (arith, e, here, rest, split, whole)
 
-  -- found before: it stays
-  pub least_stays : (r : Found) → FoundIn f (64 * g) r → 0 < r.count → r.least ≡ least f end
-  least_stays r d l =
-      let q = least_of f (64 * g) (omega (arith, d.count_is)) in
-      d.least_is ∙ least_is f end (record { below = omega (arith, q.below); here = q.here; before = q.before })
+  -- a case of this group, where there was none before
+  in_group : (limit : ℕ) → limit ≤ 64 → 64 * g + limit ≤ cases → ((i : ℕ) → i < 64 * g → fails i ≡ true) → ((i : ℕ) → i < limit → bit_of w i ≡ false) → (i : ℕ) → i < 64 * g + limit → Dec (i < 64 * g) → fails i ≡ true
+  in_group limit a b before none i l (yes k) = before i k
+  in_group limit a b before none i l (no k) =
+      let e : 64 * g + (i - 64 * g) ≡ i = omega arith in
+      subst (λ y. fails y ≡ true) e (ap not (sym (in_cases (i - 64 * g) (omega arith) (omega arith)) ∙ none (i - 64 * g) (omega arith)))
 
-  none_before : (r : Found) → FoundIn f (64 * g) r → r.count ≤ 0 → (i : ℕ) → i < 64 * g → f i ≡ false
-  none_before r d l = tally_none f (64 * g) (omega (arith, d.count_is))
-
-  -- still none
-  pub least_none : (r : Found) → FoundIn f (64 * g) r → r.count ≤ 0 → w ≡ 0 → 0 ≡ least f end
-  least_none r d l z = sym (none_least f end (λ i k. go i k (dec_lt i (64 * g))))
-    where
-      go : (i : ℕ) → i < end → Dec (i < 64 * g) → f i ≡ false
-      go i k (yes b) = none_before r d l i b
-      go i k (no b) =
-          let e : 64 * g + (i - 64 * g) ≡ i = omega arith in
-          subst (λ y. f y ≡ false) e (sym (in_cases (i - 64 * g) (omega arith) (omega arith)) ∙ zero_none z (i - 64 * g))
-
-  -- found in this group
-  pub least_here : (r : Found) → FoundIn f (64 * g) r → r.count ≤ 0 → {p : ℕ} → Least (bit_of w) 64 p → 64 * g + p ≡ least f end
-  least_here r d l {p} q =
-      let both : ltb (64 * g + p) cases && f (64 * g + p) ≡ true = sym (c.at p q.below) ∙ q.here in
+  -- the least case stays where there is one; else it is that of this group, if any
+  least_more : (old new : Option ℕ) → first_bad fails (64 * g) ≡ old → MatchOption new (w ≡ 0) (λ x. (64 * g ≤ x) × Least (bit_of w) 64 (x - 64 * g)) → option_or old new ≡ first_bad fails end
+  least_more (Some x) new e q =
+      let r = stopped_at fails (64 * g) e in
+      sym (at_stopped fails end (record { below = omega (arith, r.below); fails = r.fails; before = r.before }))
+  least_more None None e q =
+      let a : 64 * g + (end - 64 * g) ≡ end = omega arith in
+      sym (each_clear fails end (λ i l. in_group (end - 64 * g) (omega arith) (omega arith) (clear_each fails (64 * g) e) (λ i l. zero_none q i) i (omega arith) (dec_lt i (64 * g))))
+  least_more None (Some x) e q =
+      let p : ℕ = x - 64 * g in
+      let a : 64 * g + p ≡ x = omega (arith, q.0) in
+      let both : ltb (64 * g + p) cases && f (64 * g + p) ≡ true = sym (c.at p q.1.below) ∙ q.1.here in
       let inside : 64 * g + p < cases = ltb-true _ _ (left_true (ltb (64 * g + p) cases) (f (64 * g + p)) both) in
-      least_is f end (record { below = omega (arith, q.below); here = right_true (ltb (64 * g + p) cases) (f (64 * g + p)) both; before = λ y k. go inside y k (dec_lt y (64 * g)) })
-    where
-      go : 64 * g + p < cases → (y : ℕ) → y < 64 * g + p → Dec (y < 64 * g) → f y ≡ false
-      go inside y k (yes b) = none_before r d l y b
-      go inside y k (no b) =
-          let e : 64 * g + (y - 64 * g) ≡ y = omega arith in
-          subst (λ y. f y ≡ false) e (sym (in_cases (y - 64 * g) (omega (arith, q.below)) (omega arith)) ∙ q.before (y - 64 * g) (omega arith))
+      sym (at_stopped fails end (record {
+        below = omega (arith, q.1.below);
+        fails = subst (λ y. fails y ≡ false) a (ap not (right_true (ltb (64 * g + p) cases) (f (64 * g + p)) both));
+        before = λ i l. in_group p (omega (arith, q.1.below)) (omega arith) (clear_each fails (64 * g) e) q.1.before i (omega arith) (dec_lt i (64 * g));
+      }))
 
--- at most 4096 cases
-pub cases_most : {cases k : ℕ} → cases ≡ 2 ^ k → k ≤ 12 → cases ≤ 4096
-cases_most {cases} {k} e h = omega (arith, e, pow_mono {i = k} {j = 12} h)
+  pub found_more : {r : Found} {n : ℕ} (new : Option ℕ) → FoundIn f (64 * g) r → n ≡ tally (bit_of w) 64 → MatchOption new (w ≡ 0) (λ x. (64 * g ≤ x) × Least (bit_of w) 64 (x - 64 * g))
+      → FoundIn f end (record { count = r.count + n; least = option_or r.least new })
+  found_more {r} {n} new d e q =
+      record {
+        count_is = ap (λ m. r.count + m) e ∙ count_more r.count d.count_is;
+        least_is = least_more r.least new (sym d.least_is) q;
+      }
+
+-- how many groups the cases of k variables are
+pub record Groups (k n : ℕ) : Type 0 where
+  pub few : n ≤ 64
+  pub all : 2 ^ k ≤ 64 * n
+  pub within : (g : ℕ) → g < n → 64 * g < 2 ^ k
+
+pub groups_are : {k n : ℕ} → k ≤ 12 → n ≡ div_ceil (1 * 2 ^ k % 2 ^ 64) 64 → Groups k n
+groups_are {k} {n} h e = let most = pow_mono {i = k} {j = 12} h in record { few = omega (arith, e, most); all = omega (arith, e, most); within = λ g l. omega (arith, e, most) }
 
 -- where a place stands for a case at all, it does so in every group
 place_case : (k g i : ℕ) → i < 64 → 64 * g < 2 ^ k → ltb i (2 ^ k) ≡ ltb (64 * g + i) (2 ^ k)
@@ -99,12 +99,10 @@ place_case k g i l h = go (dec_lt k 6)
 
 module _ (f : ℕ → Bool) where
   -- a group's word, its unused places masked
-  pub covers : (g w : ℕ) {cases k used : ℕ} → cases ≡ 2 ^ k → 64 * g < cases → ((i : ℕ) → i < 64 → bit_of w i ≡ f (64 * g + i)) → UsedPlaces k used → Covers f cases g (bit_and w used)
-  covers g w {cases} {k} {used} e h here u =
+  pub covers : (k g w : ℕ) {used : ℕ} → 64 * g < 2 ^ k → ((i : ℕ) → i < 64 → bit_of w i ≡ f (64 * g + i)) → UsedPlaces k used → Covers f (2 ^ k) g (bit_and w used)
+  covers k g w {used} h here u =
       record {
-        at = λ i l. bit_and_lem w used i ∙ ap (λ b. b && bit_of used i) (here i l)
-            ∙ ap (λ b. f (64 * g + i) && b) (u.at i l ∙ place_case k g i l (omega arith) ∙ ap (ltb (64 * g + i)) (sym e))
-            ∙ swap (f (64 * g + i)) (ltb (64 * g + i) cases);
+        at = λ i l. bit_and_lem w used i ∙ rw (here i l, u.at i l, place_case k g i l h) (swap (f (64 * g + i)) (ltb (64 * g + i) (2 ^ k)));
       }
     where
       swap : (a b : Bool) → a && b ≡ b && a
@@ -113,15 +111,27 @@ module _ (f : ℕ → Bool) where
       swap false true = refl
       swap false false = refl
 
-  pub found_start : (cases : ℕ) → FoundIn f (min (64 * 0) cases) (record { count = 0; least = 0 })
-  found_start cases = let e : 0 ≡ min (64 * 0) cases = omega arith in subst (λ m. FoundIn f m (record { count = 0; least = 0 })) e (found_none f)
+  pub found_start : (cases : ℕ) {r : Found} → (r.count ≡ 0) × (r.least ≡ None) → FoundIn f (min (64 * 0) cases) r
+  unfolding tally first_bad
+  found_start cases e = let none : min (64 * 0) cases ≡ 0 = omega arith in rw none (record { count_is = e.0; least_is = e.1 })
 
   module _ (cases g : ℕ) {r : Found} (d : FoundIn f (min (64 * g) cases) r) where
-    pub found_small : cases ≤ 4096 → r.count ≤ 4096
-    found_small h = omega (arith, d.count_is, tally_le f (min (64 * g) cases))
-
     pub found_so_far : 64 * g < cases → FoundIn f (64 * g) r
     found_so_far h = let e : min (64 * g) cases ≡ 64 * g = omega arith in subst (λ m. FoundIn f m r) e d
 
     pub found_all : cases ≤ 64 * g → FoundIn f cases r
     found_all h = let e : min (64 * g) cases ≡ cases = omega arith in subst (λ m. FoundIn f m r) e d
+
+  -- what is found says whether a case passes at all, and which is the least
+  module _ {m : ℕ} {r : Found} (d : FoundIn f m r) where
+    pub found_small : r.count ≤ m
+    found_small = omega (arith, d.count_is, tally_le f m)
+
+    pub found_some : {x : ℕ} → r.least ≡ Some x → (0 < tally f m) × (x ≡ least f m)
+    unfolding least
+    found_some {x} e =
+        let s = stopped_at (λ x. not (f x)) m (sym d.least_is ∙ e) in
+        (some_tally f m x s.below (not-false (f x) s.fails), rw (← d.least_is, e))
+
+    pub found_nothing : r.least ≡ None → tally f m ≡ 0
+    found_nothing e = none_tally f m (λ i l. not-true (f i) (clear_each (λ x. not (f x)) m (sym d.least_is ∙ e) i l))

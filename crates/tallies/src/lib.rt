@@ -1,78 +1,70 @@
 // How many cases of a job fail and how many are empty, and the least of each.
 #![tactic(auto)]
 
-ghost use Rattle.std.specs.Prelude.{◌≡◌, Bool, ℕ, ◌+◌, ◌*◌, ◌^◌, ◌<◌, min, get_or};
-ghost use Rattle.meaning.specs.Jobs.{latest};
-ghost use Rattle.meaning.specs.Answers.{failing, empty, least};
-ghost use Rattle.decoded.specs.Fields.{clause_of, job_from, Decoded};
-ghost use Rattle.decoded.specs.Chains.{Chained};
+ghost use Rattle.std.specs.Prelude.{◌≡◌, Bool, ℕ, ◌+◌, ◌-◌, ◌*◌, ◌<◌, ◌≤◌, min, MatchOption};
+ghost use Rattle.meaning.specs.Guards.{bit_of};
+ghost use Rattle.meaning.specs.Jobs.{cases};
+ghost use Rattle.meaning.specs.Answers.{failing, empty};
+ghost use Rattle.meaning.proofs.Tallies.{Least};
+ghost use Rattle.decoded.specs.Meant.{job_in};
 ghost use Rattle.tallies.specs.Counting.{FoundIn, Covers};
 
-use groups::group;
-use stored::Size;
+use decoded::Plan;
+use groups::{Gates, answer_group};
 use words::{count, least_place, used_places};
 
-// How many cases were found, and the least of them; 0 if there is none.
-#[derive(Clone, Copy)]
+// How many cases were found, and the least of them.
+#[derive(Clone, Copy, Default)]
 pub struct Found {
     pub count: usize,
-    pub least: usize,
+    pub least: Option<usize>,
 }
 
-#[derive(Clone, Copy)]
+#[derive(Clone, Copy, Default)]
 pub struct Counted {
     pub failing: Found,
     pub empty: Found,
 }
 
-fn least_of(found: Found, g: usize, w: u64) -> usize
+// The least case of group `g` that has its place in `w`.
+fn least_in(g: usize, w: u64) -> Option<usize>
     requires { g < 4294967296 }
-    ensures { (f : ℕ → Bool) (cases : ℕ) → 64 * g < cases → FoundIn f (64 * g) found → Covers f cases g w → result ≡ least f (min (64 * (g + 1)) cases) }
+    ensures { MatchOption result (w ≡ 0) (λ x. (64 * g ≤ x) × Least (bit_of w) 64 (x - 64 * g)) }
 {
-    if found.count > 0 {
-        return found.least;
-    }
     if w == 0 {
-        return 0;
+        None
+    } else {
+        Some(64 * g + least_place(w))
     }
-    64 * g + least_place(w)
 }
 
-// The cases of one more group.
-fn found_more(found: Found, g: usize, w: u64) -> Found
-    requires { (g < 4294967296) × (found.count < 4294967296) }
-    ensures { (f : ℕ → Bool) (cases : ℕ) → 64 * g < cases → FoundIn f (64 * g) found → Covers f cases g w → FoundIn f (min (64 * (g + 1)) cases) result }
-{
-    Found {
-        count: found.count + count(w),
-        least: least_of(found, g, w),
+impl Found {
+    // The cases of one more group: those that have their place in `w`.
+    fn with(self, g: usize, w: u64) -> Found
+        requires { (g < 4294967296) × (self.count < 4294967296) }
+        ensures { (f : ℕ → Bool) (cases : ℕ) → 64 * g < cases → FoundIn f (64 * g) self → Covers f cases g w → FoundIn f (min (64 * (g + 1)) cases) result }
+    {
+        Found {
+            count: self.count + count(w),
+            least: self.least.or(least_in(g, w)),
+        }
     }
 }
 
 // All groups of a job. Places that stand for no case, where k is below 6, are masked.
-pub fn count_cases(
-    z: Size,
-    nodes: &[u64],
-    expressions: &[u64],
-    clauses: &[u64],
-    heads: &[u16],
-    nexts: &[u16],
-    last: usize,
-    cases: usize,
-) -> Counted
-    requires decoded { Decoded z.k z.n z.e z.c nodes.now expressions.now clauses.now × (cases ≡ 2 ^ z.k) }
-    requires chained { Chained (λ i. clause_of (get_or clauses.now i 0)) z.c 0 heads.now nexts.now × (last ≡ latest (λ i. clause_of (get_or clauses.now i 0)) z.c) }
-    ensures { FoundIn (failing (job_from z.k z.n nodes.now expressions.now z.c clauses.now)) cases result.failing × FoundIn (empty (job_from z.k z.n nodes.now expressions.now z.c clauses.now)) cases result.empty }
+pub fn count_cases(plan: &Plan) -> Counted
+    ensures failing { FoundIn (failing (job_in plan.now)) (cases (job_in plan.now)) result.failing }
+    ensures empty { FoundIn (empty (job_in plan.now)) (cases (job_in plan.now)) result.empty }
 {
-    let used = used_places(z.k);
-    let mut failing = Found { count: 0, least: 0 };
-    let mut empty = Found { count: 0, least: 0 };
-    let mut g: usize = 0;
-    while 64 * g < cases {
-        let answered = group(z, nodes, expressions, clauses, heads, nexts, last, g);
-        failing = found_more(failing, g, answered.failing & used);
-        empty = found_more(empty, g, answered.empty & used);
-        g += 1;
+    let gates = Gates::new(plan);
+    let used = used_places(plan.size.k);
+    let cases = 1usize << plan.size.k;
+    let mut failing = Found::default();
+    let mut empty = Found::default();
+    for g in 0..cases.div_ceil(64) {
+        let answered = answer_group(&gates, g);
+        failing = failing.with(g, answered.failing & used);
+        empty = empty.with(g, answered.empty & used);
     }
     Counted { failing, empty }
 }

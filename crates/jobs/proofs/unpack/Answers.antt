@@ -1,6 +1,6 @@
 -- `unpack` reads, and then asks for room before it writes any list.
 -- Assumes nothing.
-use Rattle.std.proofs.Common.{length, arith}
+use Rattle.std.proofs.Common.{arith}
 use Rattle.std.proofs.lemmas.Result.{err_from_is_err_and}
 use Rattle.jobs.proofs.UnpackLaws.{unpack_refused, unpack_short, unpack_fits, unpack_done}
 use Rattle.jobs.proofs.unpack.Goals as goal

@@ -1,0 +1,36 @@
+-- A node more: a wire stands for it if it has the gate.
+-- Assumes nothing.
+use Rattle.std.proofs.Common.{◌≡◌, refl, sym, ◌∙◌, ap, ◌<◌, take, slice_index_or, arith}
+use Rattle.std.proofs.lemmas.List.{get_or-take, length_push, length-take-le}
+use denote.Enum.Bare.{same_true, same_false}
+use borrow.Author.Rules.{rules}
+use Rattle.meaning.specs.declared.Gate.{Gate}
+use Rattle.meaning.specs.declared.Node.{Node}
+use Rattle.meaning.specs.contracts.Gate.{the_type}
+use Rattle.decoded.specs.Plans.{no_node, node_of}
+use Rattle.groups.proofs.WireLaws.{gathered_skip, gathered_more}
+use Rattle.groups.proofs.wires.Wires.of.Goals as goal
+use Rattle.groups.proofs.wires.Wires.of.Goals.{then-eq, else-eq}
+
+pub loop-m-preserved : goal.loop-m-preserved
+loop-m-preserved c =
+    let p = c.args.plan.now in
+    let before = c.loop-m.invariant in
+    let d : Node = slice_index_or (take p.size.n p.nodes) c.loop-m.m no_node in
+    let last : c.loop-m.m < p.size.n = omega (arith, length-take-le p.size.n p.nodes p.decoded.nodes_long) in
+    let here : d ≡ node_of p.nodes c.loop-m.m = get_or-take p.size.n p.nodes c.loop-m.m no_node last in
+    elim c.if-eq.branch [
+      | then-eq w ↦
+          let same = same_true the_type (search rules) d.gate c.args.gate (sym c.eq.ensures ∙ w.if-eq.true) in
+          rw (w.list-is, w.push.ensures.items)
+          (record {
+            few = simp length_push (omega (arith, before.few));
+            gathered = gathered_more before.gathered _ refl (sym here ∙ ap (λ (g : Gate). record { gate = g; p = d.p; q = d.q; r = d.r }) same);
+          })
+      | else-eq w ↦
+          rw w.list-is
+          (record {
+            few = omega (arith, before.few);
+            gathered = gathered_skip before.gathered (λ e. same_false the_type d.gate c.args.gate (sym c.eq.ensures ∙ w.if-eq.false) (ap (λ (n : Node). n.gate) here ∙ e));
+          })
+    ]
