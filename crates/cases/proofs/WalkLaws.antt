@@ -1,6 +1,6 @@
 -- A walk over the clauses of one time takes in, one after the other, those of all clauses that are of that time.
 -- Assumes nothing.
-use Rattle.std.proofs.Common.{◌≡◌, refl, sym, ◌∙◌, ap, subst, Bool, true, false, ◌&&◌, cond, eqb, ℕ, zero, suc, ◌<◌, ◌≤◌, List, [], ◌∷◌, ◌++◌, length, length-append, append-nil, set, take, filter, get_or, arith}
+use Rattle.std.proofs.Common.{◌≡◌, refl, sym, ◌∙◌, subst, Bool, true, false, ◌&&◌, cond, eqb, ℕ, zero, suc, ◌<◌, ◌≤◌, List, [], ◌∷◌, ◌++◌, length, length-append, append-nil, set, take, filter, get_or, arith}
 use Rattle.std.specs.Prelude.{Option, None}
 use Rattle.std.specs.List.{fold, All}
 use borrow.Author.Tests.{eq-eqb, ne_eqb}
