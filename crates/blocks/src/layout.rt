@@ -1,5 +1,5 @@
 // Where a job's blocks begin, and what each block has to be.
-ghost use Rattle.std.specs.Prelude.{◌≡◌, ◌+◌, ◌<◌, ◌≤◌};
+ghost use Rattle.std.specs.Prelude.{◌≡◌, ◌^◌, ◌<◌, ◌≤◌};
 ghost use Rattle.stored.specs.Layout.{span, first_expressions, first_clauses, blocks_of, kind_of, used_from, used_of, header_sizes};
 ghost use Rattle.stored.specs.Rules.{limits_ok};
 ghost use Rattle.blocks.specs.Narrow.{Narrow};
@@ -87,7 +87,7 @@ impl Layout {
 
     #[tactic(auto, unfolding(stored::specs::Layout::used_of))]
     pub fn block_used(self, b: usize) -> u8
-        requires { b < 65536 }
+        requires { b < 2 ^ 54 }
         ensures { result ≡ used_of self.size b }
     {
         match self.block_kind(b) {
@@ -116,7 +116,7 @@ fn span(m: usize) -> usize
 
 // How many of `m` records that begin in block `first` stand in block `b`.
 fn used_from(m: usize, first: usize, b: usize) -> u8
-    requires { (first ≤ b) × (b < 65536) }
+    requires { (first ≤ b) × (b < 2 ^ 54) }
     ensures { result ≡ used_from m first b }
 {
     m.saturating_sub(63 * (b - first)).min(63) as u8

@@ -10,14 +10,14 @@ pub fn byte_at(s: &[u8], i: usize) -> u8
 }
 
 pub fn u16_at(s: &[u8], i: usize) -> u16
-    requires { i < 2 ^ 32 }
+    requires { i < 2 ^ 63 }
     ensures { result ≡ u16_at s.now i }
 {
     u16::from_le_bytes([byte_at(s, i), byte_at(s, i + 1)])
 }
 
 fn word_at(s: &[u8], i: usize) -> u32
-    requires { i + 2 < 2 ^ 32 }
+    requires { i + 2 < 2 ^ 63 }
     ensures { result ≡ word_at s.now i }
 {
     u32::from(u16_at(s, i)) + 65536 * u32::from(u16_at(s, i + 2))
@@ -26,7 +26,7 @@ fn word_at(s: &[u8], i: usize) -> u32
 // The 128 words of a block, added with wrapping.
 #[tactic(auto, using(crate::proofs::Words::adding))]
 pub fn block_sum(s: &[u8], b: usize) -> u32
-    requires { b < 65536 }
+    requires { b < 2 ^ 54 }
     ensures { result ≡ word_sum (block_from s.now b) 128 % 2 ^ 32 }
 {
     let mut sum: u32 = 0;

@@ -1,7 +1,5 @@
-pub mod GateLaws
 pub mod RowLaws
 pub mod WalkLaws
-pub mod AskedLaws
-pub mod MissLaws
 pub mod SearchLaws
+pub mod MissLaws
 pub mod AnswerLaws

@@ -1,163 +1,115 @@
--- A walk along the clauses of a time: a clause's turn, and the loop of a walk, whatever a turn does.
+-- A walk over the clauses of one time takes in, one after the other, those of all clauses that are of that time.
 -- Assumes nothing.
-use mathlib.Core.Path.{◌≡◌, refl, sym, ◌∙◌, ap, subst}
-use mathlib.Core.Bool.{Bool, true, false}
-use mathlib.Core.List.{List, [], ◌∷◌, ◌++◌}
-use Prim.Native.Nat.{ℕ, zero, suc, ◌/◌, ◌^◌, ◌≤◌, ◌<◌}
-use native.Mathlib.Omega.{arith}
-use borrow.Author.Tests.{eqb-true}
-use lib.Bits.{bit_and, and_mask}
-use lib.Dec.{eqb}
-use lib.ListN.{length, get_or, drop, set}
-use Rattle.scans.specs.Lists.{list_of}
-use Rattle.meaning.specs.Values.{value, join, join_cells, bit, number, cell_number}
-use Rattle.meaning.specs.Guards.{bit_of}
-use Rattle.meaning.specs.declared.Side.{Side}
+use Rattle.std.proofs.Common.{◌≡◌, refl, sym, ◌∙◌, ap, subst, Bool, true, false, ◌&&◌, cond, eqb, ℕ, zero, suc, ◌<◌, ◌≤◌, List, [], ◌∷◌, ◌++◌, length, length-append, append-nil, set, take, filter, get_or, arith}
+use Rattle.std.specs.Prelude.{Option, None}
+use Rattle.std.specs.List.{fold, All}
+use borrow.Author.Tests.{eq-eqb, ne_eqb}
+use native.Mathlib.Decide.{ℕ_discrete}
+use Rattle.std.proofs.Common.{get_or-set_same, get_or-set_other}
+use Rattle.cases.specs.declared.values.Value.{Value}
+use Rattle.cases.specs.Cells.{cell_of, cell_in}
+use Rattle.std.proofs.lemmas.List.{get_or-take, length-take-le, get_or_at}
+use Rattle.std.proofs.lemmas.List.Sums.{fold-append}
+use Rattle.std.proofs.lemmas.List.Elements.{filter-append, All-filter, All-from_get_or}
+use Rattle.std.proofs.Math.Seq.{take-suc, append_snoc}
 use Rattle.meaning.specs.declared.Clause.{Clause}
-use Rattle.meaning.specs.declared.Side.TheVariants.{Stimulus, Expectation}
-use Rattle.meaning.specs.Jobs.{on}
-use Rattle.meaning.proofs.Cells.{cell_of_number}
-use Rattle.decoded.specs.Fields.{byte0, byte1, half1, half3, clause_of}
-use Rattle.decoded.specs.Chains.{next_from}
-use Rattle.decoded.proofs.ChainLaws.{Next, next_is, jump}
-use Rattle.cases.specs.Forced.{forced_byte}
-use Rattle.cases.specs.Walked.{active, turned, walked, Walkable}
-use Rattle.cases.specs.Shown.{join_byte, row_bytes}
-use Rattle.cases.specs.Marks.{mark_byte, mark_bytes}
+use Rattle.meaning.specs.declared.Side.{Side}
+use Rattle.meaning.specs.declared.Side.TheVariants.{Stimulus}
+use Rattle.meaning.specs.Values.{v_x, Cell, value, join_cells, bit}
+use Rattle.meaning.specs.Guards.{truth}
+use Rattle.meaning.specs.Jobs.{same_side, on, Job, speaks, asks}
+use Rattle.meaning.specs.Rows.{asked_by, stimulus_at}
+use Rattle.meaning.proofs.Cells.{join_nothing, join_assoc}
+use Rattle.meaning.proofs.Clauses.{asks_off}
+use Rattle.decoded.specs.Plans.{no_clause, clause_of, ClauseWithin}
+use Rattle.decoded.specs.Walks.{timed, timed_from}
+use Rattle.decoded.specs.Meant.{job_in}
+use Rattle.decoded.specs.declared.Plan.{Plan}
+use Rattle.decoded.specs.declared.walk.ClausesAt.{ClausesAt}
+use Rattle.cases.specs.Runs.{counts}
 
--- the bit of a word as the code takes it
-pub guard_bit : {g : ℕ} (words : List ℕ) (w place : ℕ) → g ≡ half3 w → eqb (bit_and (get_or words g 0 / 2 ^ place) 1) 1 ≡ bit_of (get_or words (half3 w) 0) place
-unfolding bit_of
-guard_bit words w place e = rw e (ap (λ d. eqb d 1) (and_mask (get_or words (half3 w) 0 / 2 ^ place) 1))
+-- what a walk has left
+abbrev pub left : ClausesAt → List Clause
+left s = timed_from s.plan.now.clauses s.plan.now.size.c s.time s.next
 
--- joining a byte with a value: X takes it, the same stays, any other collides
-module _ (b : ℕ) {v : ℕ} (one : Bool) (e : v ≡ number (bit one)) where
-  pub join_x : b ≡ 2 → v ≡ join_byte b one
-  unfolding join_byte join_cells join
-  join_x p = rw p e
+module _ (clauses : List Clause) (t : ℕ) where
+  timed_suc : (i : ℕ) → i < length clauses → timed clauses (suc i) t ≡ timed clauses i t ++ filter (λ k. on k t) (clause_of clauses i ∷ [])
+  timed_suc i h = rw (take-suc clauses i no_clause h) (filter-append (λ k. on k t) (take i clauses) (clause_of clauses i ∷ []))
 
-  pub join_same : b ≡ v → b ≡ join_byte b one
-  unfolding join_byte join_cells join
-  join_same p = rw (p ∙ e) (go one)
+  -- one clause more: a clause of another time changes nothing
+  pub timed_fold : {A : Type 0} (f : A → Clause → A) (a : A) (i : ℕ) → i < length clauses
+      → fold f a (timed clauses (suc i) t) ≡ cond (on (clause_of clauses i) t) (f (fold f a (timed clauses i t)) (clause_of clauses i)) (fold f a (timed clauses i t))
+  timed_fold f a i h = rw (timed_suc i h, fold-append f a (timed clauses i t)) (go (on (clause_of clauses i) t))
     where
-      go : (one : Bool) → number (bit one) ≡ cell_number (join_cells (cell_of_number (number (bit one))) (value (bit one)))
+      go : (b : Bool) → fold f (fold f a (timed clauses i t)) (cond b (clause_of clauses i ∷ []) []) ≡ cond b (f (fold f a (timed clauses i t)) (clause_of clauses i)) (fold f a (timed clauses i t))
       go true = refl
       go false = refl
 
-  pub join_other : (b ≡ 2 → ⊥) → (b ≡ v → ⊥) → 3 ≡ join_byte b one
-  unfolding join_byte join_cells join
-  join_other p q = go b one (λ f. q (f ∙ sym e)) p
+  -- what holds of each of the first c clauses holds of the one that a walk has come to
+  pub timed_at : (P : Clause → Type 0) (c : ℕ) → c ≤ length clauses → ((i : ℕ) → i < c → P (clause_of clauses i)) → (done rest : List Clause) (k : Clause) → done ++ k ∷ rest ≡ timed clauses c t → P k
+  timed_at P c long each done rest k e =
+      let all : All P (timed clauses c t) = All-filter (λ k. on k t) P (take c clauses)
+      (All-from_get_or P (take c clauses) no_clause (λ i h. let l : i < c = omega (arith, h, length-take-le c clauses long) in rw (get_or-take c clauses i no_clause l) (each i l))) in
+      let here : P (get_or (done ++ k ∷ rest) (length done) no_clause) = subst (All P) (sym e) all (length done) no_clause (omega (arith, length-append done (k ∷ rest))) in
+      rw (get_or_at done k rest no_clause (length done) refl) at here
+
+-- a walk over a plan's clauses of time t: those that it has come to, and those that are left
+pub record Walking (p : Plan) (t : ℕ) (done rest : List Clause) : Type 0 where
+  pub is : done ++ rest ≡ timed p.clauses p.size.c t
+
+module _ {p : Plan} {t : ℕ} {done rest : List Clause} (w : Walking p t done rest) where
+  -- it comes to clauses within the plan's limits only
+  pub walk_within : {k : Clause} {rest' : List Clause} → rest ≡ k ∷ rest' → ClauseWithin p.size.n p.size.e k
+  walk_within {k} {rest'} e = timed_at p.clauses t (ClauseWithin p.size.n p.size.e) p.size.c p.decoded.clauses_long p.decoded.clause done rest' k (rw e at w.is)
+
+  pub walk_more : {k : Clause} {rest' : List Clause} → rest ≡ k ∷ rest' → Walking p t (done ++ k ∷ []) rest'
+  walk_more {k} {rest'} e = record { is = append_snoc done k rest' ∙ (rw e at w.is) }
+
+  pub walk_end : rest ≡ [] → done ≡ timed p.clauses p.size.c t
+  walk_end e = sym (append-nil done) ∙ (rw e at w.is)
+
+-- at its time, a clause asks of a node where it counts and is of that node
+pub counts_on : (j : Job) (x t m : ℕ) (side : Side) (k : Clause) → on k t ≡ true → counts j x side k && eqb k.node m ≡ asks j side x t m k
+unfolding asks speaks
+counts_on j x t m side k o = rw o (go (same_side k.side side) (truth j.expressions x k.guard))
+  where
+    go : (a b : Bool) → (a && b) && eqb k.node m ≡ a && (b && eqb k.node m)
+    go true b = refl
+    go false b = refl
+
+-- a cell that one clause more is taken into
+abbrev pub joined_by : Job → ℕ → ℕ → Cell → Clause → Cell
+joined_by j x m a k = cond (counts j x Stimulus k && eqb k.node m) (join_cells a (value (bit k.value))) a
+
+-- the row where a clause that counts is taken into the cell of its node
+pub joined_more : (j : Job) (x : ℕ) (row : List (Option Value)) (k : Clause) {i : ℕ} (new : Option Value) → counts j x Stimulus k ≡ true → i ≡ k.node → i < length row
+    → cell_of new ≡ join_cells (cell_in row i) (value (bit k.value)) → (m : ℕ) → cell_in (set row i new) m ≡ joined_by j x m (cell_in row m) k
+joined_more j x row k {i} new o e h q m = rw (o, ← e) (go (ℕ_discrete i m))
+  where
+    go : Dec (i ≡ m) → cell_in (set row i new) m ≡ cond (eqb i m) (join_cells (cell_in row m) (value (bit k.value))) (cell_in row m)
+    go (yes d) = rw (← d, eq-eqb i i refl, get_or-set_same row i new None h) q
+    go (no d) = rw (ne_eqb i m d, get_or-set_other row i m new None (λ q. d (sym q)))
+
+module _ (p : Plan) (x t m : ℕ) (a : Cell) where
+  joined_so_far : (i : ℕ) → i ≤ p.size.c → fold (joined_by (job_in p) x m) a (timed p.clauses i t) ≡ join_cells a (asked_by (job_in p) x t m i)
+  unfolding asked_by
+  joined_so_far zero h = sym (join_nothing a)
+  joined_so_far (suc i) h = timed_fold p.clauses t (joined_by (job_in p) x m) a i (omega (arith, p.decoded.clauses_long)) ∙ rw (joined_so_far i (omega arith)) (go (on k t) refl)
     where
-      go : (b : ℕ) (one : Bool) → (b ≡ number (bit one) → ⊥) → (b ≡ 2 → ⊥) → 3 ≡ cell_number (join_cells (cell_of_number b) (value (bit one)))
-      go zero true f g = refl
-      go zero false f g = absurd (f refl)
-      go (suc zero) true f g = absurd (f refl)
-      go (suc zero) false f g = refl
-      go (suc (suc zero)) one f g = absurd (g refl)
-      go (suc (suc (suc b))) one f g = refl
+      k : Clause
+      k = clause_of p.clauses i
 
--- whether a clause is active: side 1 is expectation, any other stimulus
-side_of : (b : ℕ) → (b ≡ 1 → ⊥) → get_or (Stimulus ∷ Expectation ∷ []) b Stimulus ≡ Stimulus
-side_of zero h = refl
-side_of (suc zero) h = absurd (h refl)
-side_of (suc (suc b)) h = refl
+      go : (b : Bool) → on k t ≡ b → cond b (joined_by (job_in p) x m (join_cells a (asked_by (job_in p) x t m i)) k) (join_cells a (asked_by (job_in p) x t m i))
+          ≡ join_cells a (join_cells (asked_by (job_in p) x t m i) (value (cond (asks (job_in p) Stimulus x t m k) (bit k.value) v_x)))
+      go true o = rw (counts_on (job_in p) x t m Stimulus k o) (taken (asks (job_in p) Stimulus x t m k))
+        where
+          taken : (b : Bool) → cond b (join_cells (join_cells a (asked_by (job_in p) x t m i)) (value (bit k.value))) (join_cells a (asked_by (job_in p) x t m i))
+              ≡ join_cells a (join_cells (asked_by (job_in p) x t m i) (value (cond b (bit k.value) v_x)))
+          taken true = join_assoc a (asked_by (job_in p) x t m i) (value (bit k.value))
+          taken false = rw (join_nothing (asked_by (job_in p) x t m i))
+      go false o = rw (asks_off (job_in p) Stimulus x t m k o, join_nothing (asked_by (job_in p) x t m i))
 
-module _ (words : List ℕ) (place w : ℕ) {b : ℕ} (e : b ≡ byte0 w) where
-  pub not_stimulus : b ≡ 1 → active Stimulus words place w ≡ false
-  unfolding active clause_of
-  not_stimulus h = rw (sym e ∙ h)
-
-  pub not_expectation : (b ≡ 1 → ⊥) → active Expectation words place w ≡ false
-  unfolding active clause_of
-  not_expectation h = rw (side_of (byte0 w) (λ q. h (e ∙ q)))
-
-  pub is_stimulus : (b ≡ 1 → ⊥) → {g : Bool} → g ≡ bit_of (get_or words (half3 w) 0) place → active Stimulus words place w ≡ g
-  unfolding active clause_of
-  is_stimulus h q = rw (side_of (byte0 w) (λ q. h (e ∙ q)), q)
-
-  pub is_expectation : b ≡ 1 → {g : Bool} → g ≡ bit_of (get_or words (half3 w) 0) place → active Expectation words place w ≡ g
-  unfolding active clause_of
-  is_expectation h q = rw (sym e ∙ h, q)
-
--- a clause's turn
-module _ (takes : ℕ → Bool → ℕ) (side : Side) (words : List ℕ) (place w : ℕ) (list : List ℕ) where
-  pub no_turn : active side words place w ≡ false → list ≡ turned takes side words place w list
-  unfolding turned
-  no_turn e = rw e
-
-  pub turn : active side words place w ≡ true → {a b v : ℕ} → a ≡ half1 w → b ≡ byte1 w → v ≡ takes (get_or list a 0) (eqb b 1) → set list a v ≡ turned takes side words place w list
-  unfolding turned clause_of
-  turn e {a} {b} {v} p q r = rw (e, ← p, ← q, r)
-
--- a list that is longer can be walked too
-pub walk_in : {clauses heads nexts words : List ℕ} {c place t n size : ℕ} → Walkable clauses c heads nexts words place t n → n ≤ size → Walkable clauses c heads nexts words place t size
-walk_in w h =
-    record {
-      chained = w.chained;
-      clauses_long = w.clauses_long;
-      in_place = w.in_place;
-      in_time = w.in_time;
-      node = λ i l. omega (arith, w.node i l);
-      guard = w.guard;
-    }
-
-abbrev clause_in : List ℕ → ℕ → Clause
-clause_in clauses i = clause_of (get_or clauses i 0)
-
--- a walk's loop, whatever a turn does
-module _ (takes : ℕ → Bool → ℕ) (side : Side) (words : List ℕ) (place : ℕ) (clauses : List ℕ) (t : ℕ) where
-  walked_off : (list : List ℕ) (i : ℕ) → on (clause_of (get_or clauses i 0)) t ≡ false → walked takes side words place clauses t (suc i) list ≡ walked takes side words place clauses t i list
-  unfolding walked
-  walked_off list i e = rw e
-
-  walked_on : (list : List ℕ) (i : ℕ) → on (clause_of (get_or clauses i 0)) t ≡ true → walked takes side words place clauses t (suc i) list ≡ turned takes side words place (get_or clauses i 0) (walked takes side words place clauses t i list)
-  unfolding walked
-  walked_on list i e = rw e
-
-  -- the loop has come to clause i, which is of time t if it is one
-  pub record Walking (c : ℕ) (list₀ list : List ℕ) (i : ℕ) : Type 0 where
-    pub size : length list ≡ length list₀
-    pub within : i ≤ c
-    pub here : i < c → on (clause_of (get_or clauses i 0)) t ≡ true
-    pub is : list ≡ walked takes side words place clauses t i list₀
-
-  module _ {c : ℕ} {heads nexts : List ℕ} {n : ℕ} (w : Walkable clauses c heads nexts words place t n) where
-    pub walk_starts : (list : List ℕ) {i : ℕ} → i ≡ get_or heads t 0 → Walking c list list i
-    unfolding walked
-    walk_starts list {i} e =
-        let p : Next (clause_in clauses) c t 0 i = subst (Next (clause_in clauses) c t 0) (sym (e ∙ w.chained.head t w.in_time)) (next_is (clause_in clauses) c t 0 (omega arith)) in
-        record { size = refl; within = p.within; here = p.here; is = sym (jump (clause_in clauses) c (λ m. walked takes side words place clauses t m list) t (walked_off list) 0 i p) }
-
-    next_here : {list₀ list : List ℕ} {i k : ℕ} → Walking c list₀ list i → i < c → k ≡ get_or nexts i 0 → Next (clause_in clauses) c t (suc i) k
-    unfolding on
-    next_here {i = i} a l e =
-        subst (Next (clause_in clauses) c t (suc i))
-        (sym (e ∙ w.chained.next i (omega arith) l ∙ ap (λ u. next_from (clause_in clauses) c u (suc i)) (eqb-true _ _ (a.here l))))
-        (next_is (clause_in clauses) c t (suc i) l)
-
-    pub walk_goes : {list₀ list : List ℕ} {i k : ℕ} → Walking c list₀ list i → i < c → k ≡ get_or nexts i 0 → i < k
-    walk_goes a l e = (next_here a l e).from
-
-    pub walk_more : {list₀ list new : List ℕ} {i k : ℕ} → Walking c list₀ list i → i < c → length new ≡ length list → new ≡ turned takes side words place (get_or clauses i 0) list → k ≡ get_or nexts i 0 → Walking c list₀ new k
-    walk_more {list₀} {list} {new} {i} {k} a l s q e =
-        let p = next_here a l e in
-        record {
-          size = s ∙ a.size;
-          within = p.within;
-          here = p.here;
-          is = q ∙ ap (turned takes side words place (get_or clauses i 0)) a.is ∙ sym (walked_on list₀ i (a.here l)) ∙ sym (jump (clause_in clauses) c (λ m. walked takes side words place clauses t m list₀) t (walked_off list₀) (suc i) k p);
-        }
-
-    pub walk_ends : {list₀ list : List ℕ} {i : ℕ} → Walking c list₀ list i → c ≤ i → list ≡ walked takes side words place clauses t c list₀
-    walk_ends {list₀} a h = a.is ∙ ap (λ m. walked takes side words place clauses t m list₀) (omega (arith, a.within))
-
--- the bytes of a time, made in two steps
-pub row_made : (n : ℕ) (nodes : List ℕ) (c : ℕ) (clauses words : List ℕ) (place t : ℕ) (row : List ℕ) {made new : List ℕ} → made ≡ list_of (forced_byte nodes row t) n ++ drop n row
-    → new ≡ walked join_byte Stimulus words place clauses t c made → new ≡ row_bytes n nodes c clauses words place t row
-unfolding row_bytes
-row_made n nodes c clauses words place t row p q = q ∙ ap (walked join_byte Stimulus words place clauses t c) p
-
-pub marks_made : (n c : ℕ) (clauses words : List ℕ) (place t : ℕ) (marks : List ℕ) {cleared new : List ℕ} → cleared ≡ list_of (λ m. 0) n ++ drop n marks
-    → new ≡ walked mark_byte Expectation words place clauses t c cleared → new ≡ mark_bytes n c clauses words place t marks
-unfolding mark_bytes
-marks_made n c clauses words place t marks p q = q ∙ ap (walked mark_byte Expectation words place clauses t c) p
+  -- so the clauses of the time join the stimulus
+  pub joined_all : fold (joined_by (job_in p) x m) a (timed p.clauses p.size.c t) ≡ join_cells a (stimulus_at (job_in p) x t m)
+  unfolding stimulus_at
+  joined_all = joined_so_far p.size.c (omega arith)

@@ -1,5 +1,2 @@
-pub mod Forced
-pub mod Walked
-pub mod Shown
-pub mod Marks
-pub mod Found
+pub mod Cells
+pub mod Runs

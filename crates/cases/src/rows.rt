@@ -1,93 +1,173 @@
-// The rows of a case: what the gates force from the row before, joined with the stimulus.
-ghost use Rattle.std.specs.Prelude.{◌≡◌, not, ◌++◌, ◌<◌, ◌≤◌, eqb, length, get_or, drop};
+// The rows of a case, one after the other.
+ghost use Rattle.std.specs.Prelude.{◌≡◌, ℕ, ◌+◌, ◌%◌, ◌<◌, not, length, slice_index};
 ghost use Rattle.scans.specs.First.{first_bad};
-ghost use Rattle.scans.specs.Lists.{list_of};
-ghost use Rattle.decoded.specs.Fields.{half1, half2, half3};
-ghost use Rattle.cases.specs.Forced.{node_byte, forced_byte, Inside};
-ghost use Rattle.cases.specs.Walked.{Walkable};
-ghost use Rattle.cases.specs.Shown.{row_bytes, Plain};
+ghost use Rattle.meaning.specs.Values.{collides, join_cells, cell_number};
+ghost use Rattle.meaning.specs.Rows.{forces_from, forced, stimulus_at};
+ghost use Rattle.decoded.specs.Plans.{node_of, NodeWithin, ClauseWithin};
+ghost use Rattle.decoded.specs.Meant.{job_in};
+ghost use Rattle.guards.specs.Guarded.{Guarded};
+ghost use Rattle.cases.specs.Cells.{cell_of, cell_in, Shows};
+ghost use Rattle.cases.specs.Runs.{Before, counts, misses, judged};
 
-use crate::bytes::{COLLISION, X, copy, fill};
-use crate::gates::gate_byte;
-use crate::walks::stimulate;
-use decoded::{first_byte, first_half, second_half, third_half};
-use scans::Scan;
-use stored::Size;
+use crate::values::{Cell, Value, has, joined, number};
+use decoded::Plan;
+use guards::guard_words;
+use meaning::{CaseAnswer, Clause, Gate, Node, Side};
 
-fn node_byte(node: u64, row: &[u8], n: usize) -> u8
-    requires n_in_bounds { (n ≤ length row.now) × Plain n row.now }
-    requires node_bound { (half1 node < n) × ((half2 node < n) × (half3 node < n)) }
-    ensures { result ≡ node_byte node row.now }
+pub type Row = [Cell; 1008];
+
+// What a node's gate forces from a row. A gate that would read a collision has nothing to read.
+#[tactic(auto, unfolding(meaning::specs::Rows::forces_from, meaning::specs::Gates::gate_forces))]
+fn forces_from(node: Node, row: &[Cell]) -> Cell
+    requires { NodeWithin (length row.now) node }
+    ensures { cell_of result ≡ forces_from node (cell_in row.now) }
 {
-    let p = row[first_half(node)];
-    let q = row[second_half(node)];
-    let r = row[third_half(node)];
-    gate_byte(first_byte(node), p, q, r)
+    let p = row[usize::from(node.p)];
+    let q = row[usize::from(node.q)];
+    let r = row[usize::from(node.r)];
+    Some(match node.gate {
+        Gate::Input => Value::X,
+        Gate::Zero => Value::Zero,
+        Gate::One => Value::One,
+        Gate::Buf => p?,
+        Gate::Not => !p?,
+        Gate::And => p? & q?,
+        Gate::Or => p? | q?,
+        Gate::Xor => p? ^ q?,
+        Gate::Mux => p?.select(q?, r?),
+    })
 }
 
-// What all gates force from one row is written to another.
-fn step(nodes: &[u64], n: usize, row: &[u8], next: &mut [u8])
-    requires inside { Inside nodes.now n }
-    requires n_in_bounds { (n ≤ length row.now) × (n ≤ length next.old) }
-    requires plain { Plain n row.now }
-    ensures { next.new ≡ list_of (λ m. node_byte (get_or nodes.now m 0) row.now) n ++ drop n next.old }
+// What the gates force from a row.
+fn forced_row(plan: &Plan, row: &Row) -> Row
+    ensures { (m : ℕ) → m < plan.now.size.n → cell_in result m ≡ forces_from (node_of plan.now.nodes m) (cell_in row.now) }
 {
-    let mut m: usize = 0;
-    while m < n {
-        next[m] = node_byte(nodes[m], row, n);
-        m += 1;
+    let mut next = [Some(Value::X); 1008];
+    for (m, node) in plan.nodes[..plan.size.n].iter().enumerate() {
+        next[m] = forces_from(*node, row);
     }
+    next
 }
 
-// What the nodes are forced to at time `t`, from the row before. Row 0 needs none: each node starts at X.
-fn force(nodes: &[u64], n: usize, t: usize, row: &mut [u8])
-    requires inside { Inside nodes.now n }
-    requires n_in_bounds { n ≤ length row.old }
-    requires plain { 0 < t → Plain n row.old }
-    ensures { row.new ≡ list_of (forced_byte nodes.now row.old t) n ++ drop n row.old }
-{
-    if t == 0 {
-        fill(row, n, X);
-        return;
-    }
-    let mut next = [X; 1008];
-    step(nodes, n, row, &mut next);
-    copy(&next, n, row);
+// A case and the row of one time after another.
+#[derive(Drop)]
+pub struct Run<'a> {
+    plan: &'a Plan,
+    case: usize,
+    // The guards' words of the group of 64 cases that this one is in.
+    guards: [u64; 504],
+    // The time of the next row.
+    next: usize,
+    row: Row,
+    ghost guarded: { Guarded (job_in plan.now) plan.now.size.e guards (case % 64) case },
+    ghost before: { Before plan.now case next row },
 }
 
-// Row `t`, from the row before.
-pub fn next_row(
-    z: Size,
-    nodes: &[u64],
-    clauses: &[u64],
-    heads: &[u16],
-    nexts: &[u16],
-    words: &[u64],
-    place: usize,
-    t: usize,
-    row: &mut [u8],
-)
-    requires inside { Inside nodes.now z.n }
-    requires walkable { Walkable clauses.now z.c heads.now nexts.now words.now place t z.n }
-    requires n_in_bounds { z.n ≤ length row.old }
-    requires plain { 0 < t → Plain z.n row.old }
-    ensures { row.new ≡ row_bytes z.n nodes.now z.c clauses.now words.now place t row.old }
-{
-    force(nodes, z.n, t, row);
-    stimulate(clauses, z.c, heads, nexts, words, place, t, row);
-}
-
-// The lowest node that has collided.
-pub fn collided(row: &[u8], n: usize) -> Scan
-    requires { n ≤ length row.now }
-    ensures { result ≡ first_bad (λ m. not (eqb (get_or row.now m 0) 3)) n }
-{
-    let mut m: usize = 0;
-    while m < n {
-        if row[m] == COLLISION {
-            return Scan::Stopped(m);
+impl<'a> Run<'a> {
+    pub fn new(plan: &'a Plan, case: usize) -> Run<'a>
+        ensures plan { result.plan.now ≡ plan.now }
+        ensures case { result.case ≡ case }
+        ensures next { result.next ≡ 0 }
+    {
+        Run {
+            plan,
+            case,
+            guards: guard_words(plan, case / 64),
+            next: 0,
+            row: [Some(Value::X); 1008],
         }
-        m += 1;
     }
-    Scan::Clear
+
+    // Whether the clause is of this side, and its guard true in the case.
+    fn counts(&self, side: Side, clause: Clause) -> bool
+        requires { clause.guard < self.now.plan.now.size.e }
+        ensures { result ≡ counts (job_in self.now.plan.now) self.now.case side clause }
+    {
+        clause.side == side && (self.guards[usize::from(clause.guard)] >> (self.case % 64)) & 1 == 1
+    }
+
+    // The row of the next time: what the gates force from the row before, joined with the stimulus.
+    pub fn step(&mut self)
+        requires { self.old.next < 256 }
+        ensures plan { self.new.plan.now ≡ self.old.plan.now }
+        ensures case { self.new.case ≡ self.old.case }
+        ensures next { self.new.next ≡ self.old.next + 1 }
+    {
+        let mut row = self.forced();
+        self.stimulate(&mut row);
+        self.row = row;
+        self.next += 1;
+    }
+
+    // What the nodes are forced to at the next time. Each starts at X.
+    fn forced(&self) -> Row
+        ensures { Shows self.now.plan.now.size.n result (forced (job_in self.now.plan.now) self.now.case self.now.next) }
+    {
+        if self.next == 0 {
+            return [Some(Value::X); 1008];
+        }
+        forced_row(self.plan, &self.row)
+    }
+
+    // Joins a row with the stimulus of the next time.
+    fn stimulate(&self, row: &mut Row)
+        requires { self.now.next < 256 }
+        ensures { (m : ℕ) → m < self.now.plan.now.size.n → cell_in row.new m ≡ join_cells (cell_in row.old m) (stimulus_at (job_in self.now.plan.now) self.now.case self.now.next m) }
+    {
+        for clause in self.plan.clauses_at(self.next) {
+            if self.counts(Side::Stimulus, clause) {
+                let node = usize::from(clause.node);
+                row[node] = joined(row[node], clause.value);
+            }
+        }
+    }
+
+    // The lowest node that has collided.
+    pub fn collided(&self) -> Option<usize>
+        ensures { result ≡ first_bad (λ m. not (collides (cell_in self.now.row m))) self.now.plan.now.size.n }
+    {
+        self.row[..self.plan.size.n]
+            .iter()
+            .position(|cell| cell.is_none())
+    }
+
+    // The row as numbers.
+    pub fn numbers(&self) -> [u8; 1008]
+        ensures { (m : ℕ) → m < 1008 → slice_index result m ≡ cell_number (cell_in self.now.row m) }
+    {
+        self.row.map(number)
+    }
+
+    // Whether the clause is an expectation, and its guard true in the case, and the row has not its value.
+    fn misses(&self, clause: Clause) -> bool
+        requires { ClauseWithin self.now.plan.now.size.n self.now.plan.now.size.e clause }
+        ensures { result ≡ misses (job_in self.now.plan.now) self.now.case (cell_in self.now.row) clause }
+    {
+        self.counts(Side::Expectation, clause)
+            && !has(self.row[usize::from(clause.node)], clause.value)
+    }
+
+    // What the expectation of a time says of the row: the lowest node that misses a clause, where 0 is wanted if a missed clause wants 0.
+    pub fn judged(&self, time: usize) -> CaseAnswer
+        requires { time < 256 }
+        ensures { result ≡ judged (job_in self.now.plan.now) self.now.case time (cell_in self.now.row) }
+    {
+        let mut first: Option<(u16, bool)> = None;
+        for clause in self.plan.clauses_at(time) {
+            if self.misses(clause) {
+                let here = (clause.node, clause.value);
+                first = Some(first.map_or(here, |lowest| lowest.min(here)));
+            }
+        }
+        let Some((node, wanted)) = first else {
+            return CaseAnswer::Passes;
+        };
+        let node = usize::from(node);
+        CaseAnswer::Fails {
+            time,
+            node,
+            wanted: usize::from(wanted),
+            found: usize::from(number(self.row[node])),
+        }
+    }
 }

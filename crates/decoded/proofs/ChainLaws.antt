@@ -2,24 +2,16 @@
 -- Assumes nothing.
 use mathlib.Core.Path.{◌≡◌, refl, sym, ◌∙◌, ap, subst}
 use mathlib.Core.Bool.{Bool, true, false, cond}
-use mathlib.Core.List.{List, ◌++◌, append-nil}
+use mathlib.Core.List.{List}
 use Prim.Native.Nat.{ℕ, zero, suc, ◌+◌, ◌-◌, ◌≤◌, ◌<◌, max}
 use native.Mathlib.Decide.{ℕ_discrete}
 use native.Mathlib.Omega.{arith}
-use borrow.Author.Fill.{fill_more}
 use borrow.Author.Tests.{eq-eqb, ne_eqb}
-use lib.ListN.{length, get_or, drop, set, drop_of_length-le, length-set, replicate, length-replicate, get_or-replicate}
+use lib.ListN.{length, get_or, set, length-set, replicate, length-replicate, get_or-replicate}
 use lib.Seq.{get_or-set_same, get_or-set_other}
 use Rattle.meaning.specs.declared.Clause.{Clause}
 use Rattle.meaning.specs.Jobs.{on, until, latest}
 use Rattle.decoded.specs.Chains.{next_of, next_from, Chained}
-
--- a loop that clears the heads
-pub cleared_more : {heads : List ℕ} (t c : ℕ) (heads₀ : List ℕ) → t < length heads₀ → heads ≡ replicate t c ++ drop t heads₀ → set heads t c ≡ replicate (t + 1) c ++ drop (t + 1) heads₀
-cleared_more t c heads₀ h p = ap (λ l. set l t c) p ∙ fill_more t c heads₀ h
-
-pub cleared_all : {heads : List ℕ} (c : ℕ) (heads₀ : List ℕ) (t : ℕ) → t ≡ 256 → length heads₀ ≡ 256 → heads ≡ replicate t c ++ drop t heads₀ → heads ≡ replicate 256 c
-cleared_all c heads₀ t e l p = p ∙ rw (e, drop_of_length-le heads₀ {i = 256} (omega arith)) (append-nil (replicate 256 c))
 
 -- a loop that looks for the last time
 pub latest_none : (clause : ℕ → Clause) → 0 ≡ latest clause 0
@@ -88,9 +80,6 @@ module _ (clause : ℕ → Clause) (c : ℕ) where
   pub chain_down : {heads nexts : List ℕ} {i t v w : ℕ} → 0 < i → Chained clause c i heads nexts → t ≡ (clause (i - 1)).time → t < 256 → v ≡ get_or heads t 0 → w ≡ i - 1
       → Chained clause c (i - 1) (set heads t w) (set nexts (i - 1) v)
   chain_down {heads} {nexts} {i} z p = let e : i ≡ suc (i - 1) = omega arith in chain_more (subst (λ k. Chained clause c k heads nexts) e p)
-
-  pub chain_all : {heads nexts : List ℕ} {i : ℕ} → i ≤ 0 → Chained clause c i heads nexts → Chained clause c 0 heads nexts
-  chain_all {heads} {nexts} {i} h p = let e : i ≡ 0 = omega arith in subst (λ k. Chained clause c k heads nexts) e p
 
   -- k is the first clause of time t from i on, or c
   pub record Next (t i k : ℕ) : Type 0 where

@@ -1,6 +1,7 @@
 -- An accepted job's lists, decoded where they stand, are the job that its bytes mean, and every reference in them is within bounds.
 -- Assumes nothing.
-use Rattle.std.proofs.Common.{◌≡◌, refl, sym, ◌∙◌, ap, subst, Bool, true, false, ◌&&◌, ltb, ℕ, zero, suc, ◌+◌, ◌*◌, ◌≤◌, ◌<◌, List, [], ◌∷◌, length, slice_index_or, arith}
+use Rattle.std.proofs.Common.{◌≡◌, refl, sym, ◌∙◌, ap, subst, true, ◌&&◌, ltb, ℕ, zero, suc, ◌+◌, ◌*◌, ◌≤◌, ◌<◌, List, [], ◌∷◌, length, slice_index_or, arith}
+use Rattle.std.specs.Prelude.{Result, Ok}
 use mathlib.Core.Path.{fun_ext}
 use native.Mathlib.Decide.{dec_lt}
 use borrow.Author.Tests.{lt-ltb}
@@ -10,19 +11,26 @@ use Rattle.meaning.specs.declared.Expression.{Expression}
 use Rattle.meaning.specs.declared.Expression.TheVariants.{False, True, Variable, Not, And, Or, Xor}
 use Rattle.meaning.specs.declared.Clause.{Clause}
 use Rattle.scans.specs.Lists.{list_of}
-use Rattle.scans.proofs.Lists.{length_list_of, list_of_past}
+use Rattle.scans.proofs.Lists.{list_of_past}
 use Rattle.stored.specs.declared.Size.{Size}
+use Rattle.stored.specs.declared.Refusal.{Refusal}
 use Rattle.stored.specs.Bytes.{byte_at, u16_at}
-use Rattle.stored.specs.Layout.{Records, sizes_of, first_expressions, first_clauses, header_sizes, record_byte, records_of}
-use Rattle.stored.specs.Reading.{accepted_as, read_answer}
+use Rattle.stored.specs.Layout.{sizes_of, first_expressions, first_clauses, header_sizes, record_byte, records_of}
+use Rattle.stored.specs.Reading.{accepted_as, read_answer, stated_read}
 use Rattle.stored.specs.Broken.{Limits, ExpressionRule}
 use Rattle.stored.specs.Decoding.{node_at, expression_at, clause_at, job_of}
 use Rattle.stored.proofs.Accepted.{accepted_sizes}
 use Rattle.stored.proofs.Promise.{Promise, accepted_promise}
 use Rattle.blocks.specs.Narrow.{Narrow}
+use Rattle.decoded.specs.declared.Plan.{Plan}
 use Rattle.decoded.specs.Records.{ByEightBytes}
 use Rattle.decoded.specs.RecordLaws.{node_by_eight, expression_by_eight, clause_by_eight}
+use Rattle.ready.specs.Readied.{Ready}
 use Rattle.decoded.specs.Plans.{no_node, no_clause, node_of, expression_of, clause_of, job_from, names_earlier, Decoded}
+
+-- what was answered is reading's answer
+pub accepted : (s : List ℕ) {r : Result Size Refusal} {z : Size} → stated_read r ≡ read_answer s → r ≡ Ok z → read_answer s ≡ accepted_as z
+accepted s e q = sym e ∙ ap stated_read q
 
 -- an expression that keeps its rule names a variable, or earlier expressions
 module _ (k i : ℕ) (s : List ℕ) (at : ℕ) (rule : ExpressionRule k i s at) where
@@ -164,3 +172,9 @@ module _ (s : List ℕ) (z : Size) (e : read_answer s ≡ accepted_as z) where
               let q = promise.clause i (subst (λ y. i < y.c) (sym sizes_are) h) in
               rw (clause_is i) (record { node = below q.node; time = omega (arith, q.time); guard = subst (λ y. u16_at (records_of s).clauses (8 * i + 6) < y.e) sizes_are q.guard });
         }
+
+-- a plan of an accepted job's sizes and lists is ready
+pub ready_of : {job : List ℕ} {p : Plan} {z : Size} {nodes : List Node} {expressions : List Expression} {clauses : List Clause}
+    → p.size ≡ z → p.nodes ≡ nodes → p.expressions ≡ expressions → p.clauses ≡ clauses
+    → read_answer job ≡ accepted_as z → job_from z nodes expressions clauses ≡ job_of (records_of job) → Ready job p
+ready_of a b c d read means = record { read = read ∙ sym (ap accepted_as a); means = rw (a, b, c, d) means }

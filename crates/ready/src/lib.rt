@@ -14,8 +14,10 @@ pub fn make_ready(job: &[u8]) -> Result<Plan, Refusal>
 {
     let size = sizes(job)?;
     let layout = Layout { size };
+    let e1 = layout.first_expressions();
+    let c1 = layout.first_clauses();
     let nodes = decode_list(job, 1, size.n);
-    let expressions = decode_list(job, layout.first_expressions(), size.e);
-    let clauses = decode_list(job, layout.first_clauses(), size.c);
+    let expressions = decode_list(job, e1, size.e);
+    let clauses = decode_list(job, c1, size.c);
     Ok(Plan::new(size, nodes, expressions, clauses))
 }

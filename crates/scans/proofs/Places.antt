@@ -3,7 +3,6 @@
 use Rattle.std.specs.Prelude.{Option, None, Some}
 use mathlib.Core.Path.{◌≡◌, refl, sym, ap}
 use mathlib.Core.Bool.{Bool, true, false}
-use native.Mathlib.Omega.{arith}
 use Prim.Native.Nat.{ℕ, ◌<◌}
 use Rattle.scans.specs.First.{first_bad, each, place_in, place_at, first_place, FirstBad, FirstPlace}
 use Rattle.scans.proofs.Bools.{both_ways, is_true, of_true, is_false}

@@ -2,7 +2,7 @@
 #![tactic(auto)]
 
 ghost use Rattle.std.specs.Prelude.{◌≡◌, ℕ, ◌<◌, Bool};
-ghost use Rattle.scans.specs.First.{first_bad};
+ghost use Rattle.scans.specs.First.{first_bad, each};
 
 // The first index below `count` that fails the test.
 pub fn first_bad<F: Fn(usize) -> bool>(count: usize, test: F) -> Option<usize>
@@ -16,4 +16,13 @@ pub fn first_bad<F: Fn(usize) -> bool>(count: usize, test: F) -> Option<usize>
         }
     }
     None
+}
+
+// Whether each index below `count` passes the test.
+pub fn each<F: Fn(usize) -> bool>(count: usize, test: F) -> bool
+    requires { (i : ℕ) → i < count → F.pre test i }
+    ensures { (f : ℕ → Bool) → ((i : ℕ) (r : Bool) → i < count → F.post test i r → r ≡ f i)
+        → result ≡ each f count }
+{
+    first_bad(count, test).is_none()
 }

@@ -1,9 +1,9 @@
 -- A function that goes through a table test by test answers what the table answers.
 -- Assumes nothing.
 use Rattle.std.specs.Prelude.{Result, Ok, Err, Option, None, Some}
-use Rattle.std.proofs.Common.{◌≡◌, ℕ, List, [], ◌∷◌, refl, sym, ap, ◌∙◌}
+use Rattle.std.proofs.Common.{◌≡◌, ℕ, Bool, true, false, List, [], ◌∷◌, refl}
 use Rattle.scans.specs.First.{first_bad}
-use Rattle.scans.specs.Refusals.{Stage, unless_at, in_order}
+use Rattle.scans.specs.Refusals.{Stage, whole, unless_at, in_order}
 use Rattle.meaning.specs.Stated.{Stated}
 use Rattle.stored.specs.declared.Refusal.{Refusal}
 use Rattle.stored.specs.Reading.{refused}
@@ -19,22 +19,18 @@ checked_first st rest answer = go (first_bad st.ok st.count)
     go None = refl
     go (Some i) = refl
 
-module _ {r : Result Unit Refusal} (st : Stage) (rest : List Stage) (answer : Stated) (made : r ≡ checked st) where
-  after : in_order refused (st ∷ rest) answer ≡ followed r (in_order refused rest answer)
-  after = checked_first st rest answer ∙ ap (λ x. followed x (in_order refused rest answer)) (sym made)
-
-  -- the test refuses: that is the table's answer
-  pub check_failed : {e : Refusal} → r ≡ Err e → refused e.number e.block e.«record» ≡ in_order refused (st ∷ rest) answer
-  check_failed is = sym (after ∙ ap (λ x. followed x (in_order refused rest answer)) is)
-
-  -- it passes: the answer is that of the rest
-  pub check_passed : {x : Stated} → r ≡ Ok tt → x ≡ in_order refused rest answer → x ≡ in_order refused (st ∷ rest) answer
-  check_passed is e = e ∙ sym (after ∙ ap (λ x. followed x (in_order refused rest answer)) is)
-
--- the last test of a table: it is what is left
-pub check_last : {r : Result Unit Refusal} (st : Stage) (next : Stated) → r ≡ checked st → followed r next ≡ in_order refused (st ∷ []) next
+-- past the last test the answer is left
+pub checked_all : (answer : Stated) → in_order refused [] answer ≡ answer
 unfolding in_order
-check_last st next made = ap (λ x. followed x next) made ∙ sym (checked_first st [] next)
+checked_all answer = refl
+
+pub ruleset checking = (checked_first, checked_all)
+
+-- a test of the whole that was passed
+pub passed_whole : (number : ℕ) (t : Bool) {r : Result Unit Refusal} → r ≡ checked (whole number t) → r ≡ Ok tt → t ≡ true
+unfolding checked unless_at first_bad
+passed_whole number true p q = refl
+passed_whole number false p q = absurd cc
 
 -- a test as a search makes it: none fails, or the first that does is refused
 pub checked_none : (st : Stage) → None ≡ first_bad st.ok st.count → Ok tt ≡ checked st

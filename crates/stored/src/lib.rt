@@ -57,7 +57,11 @@ impl Reason {
     }
 
     // Refuses the first block below `count` that fails the test.
-    pub fn unless_each_block<F: Fn(usize) -> bool>(self, count: usize, test: F) -> Result<(), Refusal>
+    pub fn unless_each_block<F: Fn(usize) -> bool>(
+        self,
+        count: usize,
+        test: F,
+    ) -> Result<(), Refusal>
         requires { (i : ℕ) → i < count → F.pre test i }
         ensures { (f : ℕ → Bool) → ((i : ℕ) (r : Bool) → i < count → F.post test i r → r ≡ f i)
             → result ≡ checked (per_block (number_of self) count f) }

@@ -1,149 +1,124 @@
 // Storing records: the bytes of a job, each worked out from its place.
 #![tactic(auto)]
 
-ghost use Rattle.std.specs.Prelude.{◌≡◌, ◌+◌, ◌-◌, ◌*◌, ◌/◌, ◌%◌, ◌<◌, ◌≤◌, ◌++◌, length, drop};
-ghost use Rattle.scans.specs.Lists.{list_of};
-ghost use Rattle.stored.specs.Bytes.{digit, word_of};
-ghost use Rattle.stored.specs.Layout.{header_record, plain_byte, check_word, block_byte};
-ghost use Rattle.stored.specs.Operations.{records_for};
-ghost use Rattle.storing.specs.Steps.{Counted, room_at};
+ghost use Rattle.storing.specs.Counted.{Counted};
 
-use blocks::layout::{block_kind, block_used, first_clauses, first_expressions};
+use blocks::layout::{Kind, Layout};
 use blocks::numbers::byte_at;
 use stored::Size;
 
-fn low(v: usize) -> u8
-    ensures { result ≡ v % 256 }
-{
-    (v % 256) as u8
+// Records that are to be stored, and the layout that their sizes give.
+#[derive(Clone, Copy)]
+pub struct Records<'a> {
+    pub layout: Layout,
+    pub nodes: &'a [u8],
+    pub expressions: &'a [u8],
+    pub clauses: &'a [u8],
+    pub ghost counted: { Counted layout.size nodes.now expressions.now clauses.now },
 }
 
-fn header_record(z: Size) -> [u8; 8]
-    requires { z.k < 256 }
-    ensures { result ≡ header_record z }
-{
-    [
-        1,
-        z.k as u8,
-        low(z.n),
-        low(z.n / 256),
-        low(z.e),
-        low(z.e / 256),
-        low(z.c),
-        low(z.c / 256),
-    ]
-}
+impl Records<'_> {
+    ghost use Rattle.std.specs.Prelude.{◌≡◌, ◌+◌, ◌*◌, ◌<◌, ◌≤◌, ◌++◌, length, drop};
+    ghost use Rattle.stored.specs.Bytes.{word_of};
+    ghost use Rattle.stored.specs.Layout.{sizes_of, blocks_of, header_record, plain_byte, check_word, block_byte, stored};
+    ghost use Rattle.storing.specs.Steps.{records_in};
 
-// Byte `o` of the room for records in block `b`.
-fn room_byte(z: Size, nodes: &[u8], expressions: &[u8], clauses: &[u8], b: usize, o: usize) -> usize
-    requires { Counted z nodes.now expressions.now clauses.now × (b < 65536) × (o < 504) }
-    ensures { (result ≡ room_at z nodes.now expressions.now clauses.now b o) × (result < 256) }
-{
-    if b < 1 {
-        let record = header_record(z);
-        return byte_at(&record, o);
+    fn header_record(&self) -> [u8; 8]
+        ensures { result ≡ header_record self.now.layout.size }
+    {
+        let Size { k, n, e, c } = self.layout.size;
+        let [n0, n1] = (n as u16).to_le_bytes();
+        let [e0, e1] = (e as u16).to_le_bytes();
+        let [c0, c1] = (c as u16).to_le_bytes();
+        [1, k as u8, n0, n1, e0, e1, c0, c1]
     }
-    if b < first_expressions(z) {
-        return byte_at(nodes, 504 * (b - 1) + o);
-    }
-    if b < first_clauses(z) {
-        return byte_at(expressions, 504 * (b - first_expressions(z)) + o);
-    }
-    byte_at(clauses, 504 * (b - first_clauses(z)) + o)
-}
 
-// Byte `o` of block `b`, the check left out.
-fn plain_byte(
-    z: Size,
-    nodes: &[u8],
-    expressions: &[u8],
-    clauses: &[u8],
-    b: usize,
-    o: usize,
-) -> usize
-    requires { Counted z nodes.now expressions.now clauses.now × (b < 65536) × (o < 508) }
-    ensures { (result ≡ plain_byte (records_for z.k nodes.now expressions.now clauses.now) b o) × (result < 256) }
-{
-    if o < 1 {
-        return b % 256;
+    // Byte `o` of the room for records in block `b`.
+    #[tactic(auto, using(crate::proofs::Digits::rooms))]
+    fn room_byte(&self, b: usize, o: usize) -> u8
+        requires { (b < 65536) × (o < 504) }
+        ensures { result ≡ plain_byte (records_in self.now) b (o + 4) }
+    {
+        match self.layout.block_kind(b) {
+            Kind::Header => byte_at(&self.header_record(), o),
+            Kind::Nodes => byte_at(self.nodes, 504 * (b - 1) + o),
+            Kind::Expressions => {
+                byte_at(
+                    self.expressions,
+                    504 * (b - self.layout.first_expressions()) + o,
+                )
+            }
+            Kind::Clauses => byte_at(self.clauses, 504 * (b - self.layout.first_clauses()) + o),
+        }
     }
-    if o < 2 {
-        return b / 256;
-    }
-    if o < 3 {
-        return block_kind(z, b);
-    }
-    if o < 4 {
-        return block_used(z, b);
-    }
-    room_byte(z, nodes, expressions, clauses, b, o - 4)
-}
 
-fn plain_word(z: Size, nodes: &[u8], expressions: &[u8], clauses: &[u8], b: usize, i: usize) -> u32
-    requires { Counted z nodes.now expressions.now clauses.now × (b < 65536) × (i < 127) }
-    ensures { result ≡ word_of (plain_byte (records_for z.k nodes.now expressions.now clauses.now) b) i }
-{
-    let low = plain_byte(z, nodes, expressions, clauses, b, 4 * i)
-        + 256 * plain_byte(z, nodes, expressions, clauses, b, 4 * i + 1);
-    let high = 65536 * plain_byte(z, nodes, expressions, clauses, b, 4 * i + 2)
-        + 16777216 * plain_byte(z, nodes, expressions, clauses, b, 4 * i + 3);
-    (low + high) as u32
-}
+    // Byte `o` of block `b`, the check left out.
+    #[tactic(auto, unfolding(stored::specs::Layout::plain_byte))]
+    fn plain_byte(&self, b: usize, o: usize) -> u8
+        requires { (b < 65536) × (o < 508) }
+        ensures { result ≡ plain_byte (records_in self.now) b o }
+    {
+        let [low, high] = (b as u16).to_le_bytes();
+        match o {
+            0 => low,
+            1 => high,
+            2 => self.layout.block_kind(b).number(),
+            3 => self.layout.block_used(b),
+            _ => self.room_byte(b, o - 4),
+        }
+    }
 
-// The check: what the other 127 words, added with wrapping, leave to 4,294,967,295.
-fn check_word(z: Size, nodes: &[u8], expressions: &[u8], clauses: &[u8], b: usize) -> u32
-    requires { Counted z nodes.now expressions.now clauses.now × (b < 65536) }
-    ensures { result ≡ check_word (plain_byte (records_for z.k nodes.now expressions.now clauses.now) b) }
-{
-    let mut sum: u32 = 0;
-    let mut i: usize = 0;
-    while i < 127 {
-        sum = std::num::wrapping_add_u32(sum, plain_word(z, nodes, expressions, clauses, b, i));
-        i += 1;
+    fn plain_word(&self, b: usize, i: usize) -> u32
+        requires { (b < 65536) × (i < 127) }
+        ensures { result ≡ word_of (plain_byte (records_in self.now) b) i }
+    {
+        u32::from_le_bytes([
+            self.plain_byte(b, 4 * i),
+            self.plain_byte(b, 4 * i + 1),
+            self.plain_byte(b, 4 * i + 2),
+            self.plain_byte(b, 4 * i + 3),
+        ])
     }
-    4294967295 - sum
-}
 
-fn digit_of(v: u32, i: usize) -> u8
-    requires { i < 4 }
-    ensures { result ≡ digit v i }
-{
-    if i < 1 {
-        return (v % 256) as u8;
+    // The check: what the other 127 words, added with wrapping, leave to 4,294,967,295.
+    #[tactic(auto, using(blocks::proofs::Words::adding), unfolding(stored::specs::Layout::check_word))]
+    fn check_word(&self, b: usize) -> u32
+        requires { b < 65536 }
+        ensures { result ≡ check_word (plain_byte (records_in self.now) b) }
+    {
+        let mut sum: u32 = 0;
+        for i in 0..127 {
+            sum = sum.wrapping_add(self.plain_word(b, i));
+        }
+        u32::MAX - sum
     }
-    if i < 2 {
-        return (v / 256 % 256) as u8;
-    }
-    if i < 3 {
-        return (v / 256 / 256 % 256) as u8;
-    }
-    (v / 256 / 256 / 256 % 256) as u8
-}
 
-fn block_byte(z: Size, nodes: &[u8], expressions: &[u8], clauses: &[u8], b: usize, o: usize) -> u8
-    requires { Counted z nodes.now expressions.now clauses.now × (b < 65536) × (o < 512) }
-    ensures { result ≡ block_byte (records_for z.k nodes.now expressions.now clauses.now) b o }
-{
-    if o < 508 {
-        return plain_byte(z, nodes, expressions, clauses, b, o) as u8;
+    #[tactic(auto, unfolding(stored::specs::Layout::block_byte))]
+    fn block_byte(&self, b: usize, o: usize) -> u8
+        requires { (b < 65536) × (o < 512) }
+        ensures { result ≡ block_byte (records_in self.now) b o }
+    {
+        if o < 508 {
+            self.plain_byte(b, o)
+        } else {
+            self.check_word(b).to_le_bytes()[o - 508]
+        }
     }
-    digit_of(check_word(z, nodes, expressions, clauses, b), o - 508)
-}
 
-pub fn write_blocks(
-    z: Size,
-    nodes: &[u8],
-    expressions: &[u8],
-    clauses: &[u8],
-    size: usize,
-    out: &mut [u8],
-)
-    requires { Counted z nodes.now expressions.now clauses.now × (size ≤ length out.old) × (size < 16777216) }
-    ensures { out.new ≡ list_of (λ j. block_byte (records_for z.k nodes.now expressions.now clauses.now) (j / 512) (j % 512)) size ++ drop size out.old }
-{
-    let mut j: usize = 0;
-    while j < size {
-        out[j] = block_byte(z, nodes, expressions, clauses, j / 512, j % 512);
-        j += 1;
+    // How many bytes the stored job has.
+    pub fn size(&self) -> usize
+        ensures { (result ≡ 512 * blocks_of (sizes_of (records_in self.now))) × (result < 16777216) }
+    {
+        512 * self.layout.block_count()
+    }
+
+    #[tactic(auto, using(scans::proofs::Lists::filling), unfolding(stored::specs::Layout::stored))]
+    pub fn write(&self, out: &mut [u8])
+        requires { 512 * blocks_of (sizes_of (records_in self.now)) ≤ length out.old }
+        ensures { out.new ≡ stored (records_in self.now) ++ drop (512 * blocks_of (sizes_of (records_in self.now))) out.old }
+    {
+        for j in 0..self.size() {
+            out[j] = self.block_byte(j / 512, j % 512);
+        }
     }
 }

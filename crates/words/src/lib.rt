@@ -8,6 +8,7 @@ ghost use Rattle.meaning.proofs.Tallies.{Least};
 ghost use Rattle.words.specs.Places.{Forces, Narrows, Collided, Differs, VariableWord, UsedPlaces, bits_at, not_bits, and_bits, or_bits, xor_bits, mux_bits};
 
 use meaning::Gate;
+use std::ops::{BitAnd, BitOr, BitXor, Not};
 
 #[derive(Clone, Copy)]
 pub struct Pair {
@@ -65,39 +66,55 @@ pub fn least_place(x: u64) -> usize
 }
 
 // The gates, at all places together. NOT exchanges the two words, so no gate needs a complement.
-fn not_pair(p: Pair) -> Pair
-    ensures { (i : ℕ) → bits_at result i ≡ not_bits (bits_at p i) }
-{
-    Pair {
-        zeros: p.ones,
-        ones: p.zeros,
+impl Not for Pair {
+    type Output = Pair;
+
+    ghost not_gives = { λ p r. (i : ℕ) → bits_at r i ≡ not_bits (bits_at p i) };
+
+    fn not(self) -> Pair {
+        Pair {
+            zeros: self.ones,
+            ones: self.zeros,
+        }
     }
 }
 
-fn and_pair(p: Pair, q: Pair) -> Pair
-    ensures { (i : ℕ) → bits_at result i ≡ and_bits (bits_at p i) (bits_at q i) }
-{
-    Pair {
-        zeros: p.zeros | q.zeros,
-        ones: p.ones & q.ones,
+impl BitAnd for Pair {
+    type Output = Pair;
+
+    ghost bitand_gives = { λ p q r. (i : ℕ) → bits_at r i ≡ and_bits (bits_at p i) (bits_at q i) };
+
+    fn bitand(self, q: Pair) -> Pair {
+        Pair {
+            zeros: self.zeros | q.zeros,
+            ones: self.ones & q.ones,
+        }
     }
 }
 
-fn or_pair(p: Pair, q: Pair) -> Pair
-    ensures { (i : ℕ) → bits_at result i ≡ or_bits (bits_at p i) (bits_at q i) }
-{
-    Pair {
-        zeros: p.zeros & q.zeros,
-        ones: p.ones | q.ones,
+impl BitOr for Pair {
+    type Output = Pair;
+
+    ghost bitor_gives = { λ p q r. (i : ℕ) → bits_at r i ≡ or_bits (bits_at p i) (bits_at q i) };
+
+    fn bitor(self, q: Pair) -> Pair {
+        Pair {
+            zeros: self.zeros & q.zeros,
+            ones: self.ones | q.ones,
+        }
     }
 }
 
-fn xor_pair(p: Pair, q: Pair) -> Pair
-    ensures { (i : ℕ) → bits_at result i ≡ xor_bits (bits_at p i) (bits_at q i) }
-{
-    Pair {
-        zeros: (p.zeros & q.zeros) | (p.ones & q.ones),
-        ones: (p.zeros & q.ones) | (p.ones & q.zeros),
+impl BitXor for Pair {
+    type Output = Pair;
+
+    ghost bitxor_gives = { λ p q r. (i : ℕ) → bits_at r i ≡ xor_bits (bits_at p i) (bits_at q i) };
+
+    fn bitxor(self, q: Pair) -> Pair {
+        Pair {
+            zeros: (self.zeros & q.zeros) | (self.ones & q.ones),
+            ones: (self.zeros & q.ones) | (self.ones & q.zeros),
+        }
     }
 }
 
@@ -128,10 +145,10 @@ pub fn gate_pair(gate: Gate, p: Pair, q: Pair, r: Pair) -> Pair
             ones: ALL,
         },
         Gate::Buf => p,
-        Gate::Not => not_pair(p),
-        Gate::And => and_pair(p, q),
-        Gate::Or => or_pair(p, q),
-        Gate::Xor => xor_pair(p, q),
+        Gate::Not => !p,
+        Gate::And => p & q,
+        Gate::Or => p | q,
+        Gate::Xor => p ^ q,
         Gate::Mux => mux_pair(p, q, r),
     }
 }

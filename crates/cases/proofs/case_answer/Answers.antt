@@ -1,31 +1,47 @@
--- `case_answer` looks for a collision, and where there is none for a miss.
+-- Row after row.
 -- Assumes nothing.
-use mathlib.Core.Path.{sym, ◌∙◌}
-use Rattle.cases.proofs.AnswerLaws.{last_small, empty_is, passes_is, fails_is}
-use borrow.Author.Rules.{rules}
-use native.Mathlib.Omega.{arith}
+use Rattle.std.proofs.Common.{◌≡◌, ◌+◌, suc, sym, ◌∙◌, add-one, arith}
+use Rattle.cases.proofs.AnswerLaws.{last_small, Searched, Come, come_more, searched_none, searched_judged, searched_stays, searched_found, empty_is, answer_is}
 use Rattle.cases.proofs.case_answer.Goals as goal
+use Rattle.cases.proofs.case_answer.Goals.{Joined-answer, in-Passes, in_default-answer}
 
-pub first_collision-collision-requires : goal.first_collision-collision-requires
-first_collision-collision-requires c = record { decoded = c.requires.decoded; chained = c.requires.chained; time_bound = (omega (arith, last_small c.requires.decoded, c.requires.last_value), search rules) }
+pub loop-time-init : goal.loop-time-init
+loop-time-init c =
+    let e = c.new-run.ensures in
+    record { come = record { plan = e.plan; case = e.case; next = e.next }; searched = searched_none _ _ }
 
-pub returns-in-At : goal.returns-in-At
-returns-in-At c = empty_is _ _ _ _ _ _ _ c.requires.last_value c.first_collision-collision.ensures.0 c.in-At.is
+pub step-requires : goal.step-requires
+step-requires c = omega (arith, c.loop-time.invariant.come.next, last_small c.args.plan.now)
 
-pub first_miss-miss-requires : goal.first_miss-miss-requires
-first_miss-miss-requires c = record { decoded = c.requires.decoded; chained = c.requires.chained; last_bound = (omega (arith, last_small c.requires.decoded, c.requires.last_value), (omega (arith, c.first_collision-collision.auto, c.requires.decoded.n_most), omega (arith, c.requires.decoded.n_most))); n_value = sym c.first_collision-collision.ensures.0 ∙ c.in_default.is }
+pub returns-in-Some : goal.returns-in-Some
+returns-in-Some c =
+    let p = c.args.plan.now in
+    let old = c.loop-time.invariant in
+    let e = c.step.ensures in
+    let found = searched_found p c.args.case c.loop-time.time (come_more {r' = c.step.new.self} old.come e.plan e.case e.next) old.searched c.collided.ensures in
+    empty_is p c.args.case p.last_is (found p.last c.loop-time-test.true c.in-Some.is)
 
-pub bounds-marks-node : goal.bounds-marks-node
-bounds-marks-node c = omega (arith, (c.first_miss-miss.ensures.by_index _ _ c.in-At-miss.is).in_row, c.requires.decoded.n_most)
+pub judged-answer-requires : goal.judged-answer-requires
+judged-answer-requires c = omega (arith, last_small c.args.plan.now)
 
-pub bounds-row-node : goal.bounds-row-node
-bounds-row-node c = omega (arith, (c.first_miss-miss.ensures.by_index _ _ c.in-At-miss.is).in_row, c.requires.decoded.n_most)
+come : (c : Joined-answer) → Come c.args.plan.now c.args.case (c.loop-time.time + 1) c.step.new.self
+come c = let e = c.step.ensures in come_more c.loop-time.invariant.come e.plan e.case e.next
 
-pub bounds-row-node-in-At-miss : goal.bounds-row-node-in-At-miss
-bounds-row-node-in-At-miss c = omega (arith, (c.first_miss-miss.ensures.by_index _ _ c.in-At-miss.is).in_row, c.requires.decoded.n_most)
+searched : (c : Joined-answer) → Searched c.args.plan.now c.args.case (c.loop-time.time + 1) c.match-answer.answer
+searched c =
+    let p = c.args.plan.now in
+    let t = c.loop-time.time in
+    let before = c.loop-time.invariant.searched in
+    elim c.match-answer.branch [
+      | in-Passes w ↦ rw w.answer-is (searched_judged p c.args.case t (come c) before c.collided.ensures c.in_default.is w.in-Passes.is w.judged-answer.ensures)
+      | in_default-answer w ↦ rw w.answer-is (searched_stays p c.args.case t (come c) before c.collided.ensures c.in_default.is w.in_default-answer.not-Passes)
+    ]
 
-pub returns-in-At-miss : goal.returns-in-At-miss
-returns-in-At-miss c = fails_is _ _ _ _ _ _ _ c.requires.last_value c.first_collision-collision.ensures.0 c.in_default.is c.first_miss-miss.ensures.value _ _ c.in-At-miss.is (c.first_miss-miss.ensures.by_index _ _ c.in-At-miss.is) c.wanted.ensures c.wide.ensures
+pub loop-time-preserved : goal.loop-time-preserved
+loop-time-preserved c = let here = (goal.at.loop-time-preserved c).Joined-answer in record { come = come here; searched = searched here }
 
-pub returns : goal.returns
-returns c = passes_is _ _ _ _ _ _ _ c.requires.last_value c.first_collision-collision.ensures.0 c.in_default.is c.first_miss-miss.ensures.value c.in_default-miss.is
+pub returns-after-answer : goal.returns-after-answer
+returns-after-answer c =
+    let p = c.args.plan.now in
+    let end : c.loop-time.time + 1 ≡ suc p.last = omega arith in
+    answer_is p c.args.case p.last_is (rw end at (searched (goal.at.returns-after-answer c).Joined-answer))

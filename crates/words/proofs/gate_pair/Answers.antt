@@ -23,16 +23,16 @@ pub returns-in-Buf : goal.returns-in-Buf
 returns-in-Buf c = forces_of Buf c.in-Buf.is (λ i l. refl)
 
 pub returns-in-Not : goal.returns-in-Not
-returns-in-Not c = forces_of Not c.in-Not.is (λ i l. c.not_pair.ensures i)
+returns-in-Not c = forces_of Not c.in-Not.is (λ i l. c.not.ensures i)
 
 pub returns-in-And : goal.returns-in-And
-returns-in-And c = forces_of And c.in-And.is (λ i l. c.and_pair.ensures i)
+returns-in-And c = forces_of And c.in-And.is (λ i l. c.bitand.ensures i)
 
 pub returns-in-Or : goal.returns-in-Or
-returns-in-Or c = forces_of Or c.in-Or.is (λ i l. c.or_pair.ensures i)
+returns-in-Or c = forces_of Or c.in-Or.is (λ i l. c.bitor.ensures i)
 
 pub returns-in-Xor : goal.returns-in-Xor
-returns-in-Xor c = forces_of Xor c.in-Xor.is (λ i l. c.xor_pair.ensures i)
+returns-in-Xor c = forces_of Xor c.in-Xor.is (λ i l. c.bitxor.ensures i)
 
 pub returns-in-Mux : goal.returns-in-Mux
 returns-in-Mux c = forces_of Mux c.in-Mux.is (λ i l. c.mux_pair.ensures i)

@@ -1,7 +1,0 @@
--- `entry` widens a number of the list.
--- Assumes nothing.
-use native.Mathlib.Omega.{arith}
-use Rattle.cases.proofs.walks.entry.Goals as goal
-
-pub overflow_cast-result : goal.overflow_cast-result
-overflow_cast-result c = omega (arith, c.shared_slice_known-1.given c.args.i)

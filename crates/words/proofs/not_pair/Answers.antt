@@ -1,9 +1,0 @@
--- `not_pair` at a place.
--- Assumes nothing.
-use mathlib.Core.Path.{refl}
-use Rattle.words.specs.Places.{bits_at}
-use Rattle.words.proofs.not_pair.Goals as goal
-
-pub returns : goal.returns
-unfolding bits_at
-returns c = λ i. refl
