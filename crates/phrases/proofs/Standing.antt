@@ -3,10 +3,8 @@
 use mathlib.Core.Path.{◌≡◌, sym, ◌∙◌}
 use mathlib.Core.Bool.{Bool, true, false}
 use mathlib.Core.List.{List}
-use Prim.Native.Nat.{ℕ, ◌≤◌, ◌<◌}
-use lib.ListN.{length}
+use Prim.Native.Nat.{ℕ}
 use Rattle.scans.proofs.Bools.{both_ways, says}
-use Rattle.stored.specs.Bytes.{byte_at}
 use Rattle.phrases.specs.Places.{is_at, Stands}
 
 pub stands : {text : List ℕ} {i b : ℕ} {t : Bool} → t ≡ is_at text i b → t ≡ true → Stands text i b

@@ -17,8 +17,8 @@ returns c =
     elim c.match-branch-2.branch [
       | in-Constant w ↦
           let here = rw w.in-Constant.is at c.in_ok-v.ensures in
-          rw w.es-is (record { says = constant_to c.requires.0 w.in-Constant.v here.0 here.1 w.put_expression.ensures c.skip.ensures })
+          rw w.es-is (record { says = constant_to c.requires.0 w.in-Constant.v here.0 here.1 (rw w.expression.ensures at w.push.ensures) c.skip.ensures })
       | in-Variable w ↦
           let here = rw w.in-Variable.is at c.in_ok-v.ensures in
-          rw w.es-is (record { says = letter_to c.requires.0 w.in-Variable.v here.0 here.1 (rw w.from.ensures at w.put_expression-in-Variable.ensures) c.skip.ensures })
+          rw w.es-is (record { says = letter_to c.requires.0 w.in-Variable.v here.0 here.1 (rw (w.expression-in-Variable.ensures, w.from.ensures) at w.push-in-Variable.ensures) c.skip.ensures })
     ]
