@@ -4,7 +4,7 @@ use mathlib.Core.Path.{◌≡◌, refl, sym, ◌∙◌, ap, subst}
 use mathlib.Core.Bool.{Bool, true, false, ◌&&◌}
 use mathlib.Core.List.{List}
 use native.Mathlib.Omega.{arith}
-use Prim.Native.Nat.{ℕ, ◌*◌}
+use Prim.Native.Nat.{ℕ, ◌*◌, ◌≤◌}
 use lib.Dec.{leb}
 use lib.ListN.{length}
 use Rattle.scans.proofs.Bools.{says, both_ways}
@@ -16,7 +16,7 @@ use Rattle.std.specs.Prelude.{Ok, Err}
 use Rattle.assertions.specs.declared.TextRefusal.TheVariants.{Header, Text, Room as ListTooShort}
 use Rattle.grammar.specs.Grammar.{Reads, limits}
 use Rattle.assertions.specs.Answering.{Room, Answered}
-use Rattle.assertions.specs.TextsRead.{RestAsked, TextTo, TextNone}
+use Rattle.assertions.specs.TextsRead.{TextTo, TextNone}
 use Rattle.grammar.proofs.Readings.{read_is, stop_is}
 
 -- k and n are tested first
@@ -29,8 +29,8 @@ kept k n l = (limits_rule (record { k = k; n = n; e = 0; c = 0 })).0 l
 pub refused_limits : (k n : ℕ) {text expressions clauses : List ℕ} {t : Bool} → t ≡ limits k n → t ≡ false → Answered k n text expressions clauses expressions clauses (Err Header)
 refused_limits k n {t = t} t-is h = record { says = record { why = sym t-is ∙ h; expressions_stay = refl; clauses_stay = refl } }
 
-pub text_asked : (k n : ℕ) {text : List ℕ} {t : Bool} → t ≡ limits k n → t ≡ true → RestAsked k n 0 text
-text_asked k n t-is h = let l = kept k n (within k n t-is h) in record { inside = omega arith; few_variables = l.k_most; few_nodes = omega (arith, l.n_most) }
+pub limits_few : (k n : ℕ) {t : Bool} → t ≡ limits k n → t ≡ true → (k ≤ 12) × (n ≤ 65536)
+limits_few k n t-is h = let l = kept k n (within k n t-is h) in (l.k_most, omega (arith, l.n_most))
 
 pub refused_text : (k n : ℕ) {text expressions clauses : List ℕ} {j : ℕ} {t : Bool} → t ≡ limits k n → t ≡ true → TextNone k n text j → Answered k n text expressions clauses expressions clauses (Err (Text j))
 refused_text k n {text} t-is h x =

@@ -64,29 +64,31 @@ module _ (k n : ℕ) (text : List ℕ) (p : Point) (e : ℕ) where
   unfolding step
   when_steps same a b = rw (lt-ltb (count_of p) 504 (omega arith), le-leb (e + 1) 504 (omega arith))
 
-module _ {k n i : ℕ} {text es cs : List ℕ} (asked : ClauseAsked k n i text es cs) where
-  pub touched_none : {q : ℕ} {t : Bool} → Skips text i q → t ≡ eqb q i && (not (is_at text q 33) && not (is_at text q 40)) → t ≡ true → ClauseNone (guarding []) true k n i text es cs q
-  touched_none sk t-is h = record { comes = λ p _. touched_stops k n text p (records_in es) sk (sym t-is ∙ h) }
+-- the guard begins, and it ends
+module _ (k n : ℕ) {i q : ℕ} {text : List ℕ} {t : Bool} (sk : Skips text i q) (t-is : t ≡ eqb q i && (not (is_at text q 33) && not (is_at text q 40))) (h : t ≡ false) (p : Point) where
+  begun : (e : ℕ) → reading k n text i (ready true) (in_phase p e (guarding [])) ≡ wanting k n text q p (e + 0) []
+  begun e = untouched_goes k n text p e sk (sym t-is ∙ h) ∙ wanted k n text q p [] (omega arith)
 
-  module _ {q : ℕ} {t : Bool} (sk : Skips text i q) (t-is : t ≡ eqb q i && (not (is_at text q 33) && not (is_at text q 40))) (h : t ≡ false) where
-    on_guard : (p : Point) → reading k n text i (ready true) (in_phase p (records_in es) (guarding [])) ≡ wanting k n text q p (records_in es + 0) []
-    on_guard p = untouched_goes k n text p (records_in es) sk (sym t-is ∙ h) ∙ wanted k n text q p [] (omega arith)
+  passed : {es es' : List ℕ} {r : ℕ} (g : GuardTo 1 1 k 0 0 q text es es' r) → reading k n text i (ready true) (in_phase p (records_in es) (guarding [])) ≡ having k n text r p (records_in es') [] g.guard
+  unfolding groups
+  passed {es} {r = r} g = begun (records_in es) ∙ g.comes n p [] refl (fresh_none 1) ∙ had k n text r p [] (omega arith) g.guard
 
+module _ {k n i q : ℕ} {text es cs : List ℕ} {t : Bool} (sk : Skips text i q) (t-is : t ≡ eqb q i && (not (is_at text q 33) && not (is_at text q 40))) where
+  pub touched_none : t ≡ true → ClauseNone (guarding []) true k n i text es cs q
+  touched_none h = record { comes = λ p _. touched_stops k n text p (records_in es) sk (sym t-is ∙ h) }
+
+  module _ (h : t ≡ false) where
     pub guard_none : {j : ℕ} → GuardNone 1 k 0 0 q text es j → ClauseNone (guarding []) true k n i text es cs j
     unfolding groups
-    guard_none g = record { comes = λ p _. on_guard p ∙ g.comes n p [] refl (fresh_none 1) }
+    guard_none g = record { comes = λ p _. begun k n sk t-is h p (records_in es) ∙ g.comes n p [] refl (fresh_none 1) }
 
     module _ {es' : List ℕ} {r : ℕ} (g : GuardTo 1 1 k 0 0 q text es es' r) where
-      on_colon : (p : Point) → reading k n text i (ready true) (in_phase p (records_in es) (guarding [])) ≡ having k n text r p (records_in es') [] g.guard
-      unfolding groups
-      on_colon p = on_guard p ∙ g.comes n p [] refl (fresh_none 1) ∙ had k n text r p [] (omega arith) g.guard
-
       pub colon_none : ¬ Stands text r 58 → ClauseNone (guarding []) true k n i text es cs r
-      colon_none s = record { comes = λ p _. on_colon p ∙ colon_stops k n text p (records_in es') g.guard g.over s }
+      colon_none s = record { comes = λ p _. passed k n sk t-is h p g ∙ colon_stops k n text p (records_in es') g.guard g.over s }
 
       module _ (s : Stands text r 58) where
         pub rest_none : {j : ℕ} → ToldNone text false (clause_slots n) [] (r + 1) j → ClauseNone (guarding []) true k n i text es cs j
-        rest_none x = record { comes = λ p _. on_colon p ∙ colon_goes k n text p (records_in es') g.guard s ∙ x.comes k n p (records_in es') g.guard }
+        rest_none x = record { comes = λ p _. passed k n sk t-is h p g ∙ colon_goes k n text p (records_in es') g.guard s ∙ x.comes k n p (records_in es') g.guard }
 
         pub rest_to : (place : ℕ) {cs' : List ℕ} {side node value time u : ℕ} → ToldTo text false (clause_slots n) [] (r + 1) node value time u → 8 * (place + 1) ≡ length es' → cs' ≡ cs ++ clause_bytes side value node time place
             → ClauseTo (guarding []) true k n side i text es es' cs cs' u
@@ -99,18 +101,20 @@ module _ {k n i : ℕ} {text es cs : List ℕ} (asked : ClauseAsked k n i text e
               count = g.count;
               put_guard = g.put;
               put_clause = put ∙ ap (λ a. cs ++ clause_bytes side value node time a) place_is;
-              comes = λ p _. on_colon p ∙ colon_goes k n text p (records_in es') g.guard s ∙ x.comes k n p (records_in es') g.guard;
+              comes = λ p _. passed k n sk t-is h p g ∙ colon_goes k n text p (records_in es') g.guard s ∙ x.comes k n p (records_in es') g.guard;
             }
 
-  -- after `when`
+-- `when`, where there is room
+when_read : (k n : ℕ) {i q : ℕ} {text es cs : List ℕ} → ClauseAsked i text es cs → Spelt text i (letters WHEN) q → (p : Point) → count_of p ≡ records_in cs
+    → reading k n text i (ready false) (in_phase p (records_in es) listing) ≡ reading k n text q (ready true) (in_phase p (records_in es) (guarding []))
+when_read k n {text = text} {es} asked sp p same = word_goes k n text (in_phase p (records_in es) listing) WHEN (when_steps k n text p (records_in es) same asked.room_e asked.room_c) sp
+
+module _ {k n i : ℕ} {text es cs : List ℕ} (asked : ClauseAsked i text es cs) where
   pub when_none : {j : ℕ} → Stands text i 119 → Broken text i (letters WHEN) j → ClauseNone listing false k n i text es cs j
   unfolding letters
   when_none s b = record { comes = λ p same. word_stops k n text (in_phase p (records_in es) listing) WHEN (when_steps k n text p (records_in es) same asked.room_e asked.room_c) (λ f. absurd (f s)) b }
 
   module _ {q : ℕ} (sp : Spelt text i (letters WHEN) q) where
-    on_when : (p : Point) → count_of p ≡ records_in cs → reading k n text i (ready false) (in_phase p (records_in es) listing) ≡ reading k n text q (ready true) (in_phase p (records_in es) (guarding []))
-    on_when p same = word_goes k n text (in_phase p (records_in es) listing) WHEN (when_steps k n text p (records_in es) same asked.room_e asked.room_c) sp
-
     pub when_to : {es' cs' : List ℕ} {side u : ℕ} → ClauseTo (guarding []) true k n side q text es es' cs cs' u → ClauseTo listing false k n side i text es es' cs cs' u
     when_to y =
         record {
@@ -120,11 +124,8 @@ module _ {k n i : ℕ} {text es cs : List ℕ} (asked : ClauseAsked k n i text e
           count = y.count;
           put_guard = y.put_guard;
           put_clause = y.put_clause;
-          comes = λ p same. on_when p same ∙ y.comes p same;
+          comes = λ p same. when_read k n asked sp p same ∙ y.comes p same;
         }
 
     pub when_then_none : {j : ℕ} → ClauseNone (guarding []) true k n q text es cs j → ClauseNone listing false k n i text es cs j
-    when_then_none y = record { comes = λ p same. on_when p same ∙ y.comes p same }
-
-    pub asked_after_when : ClauseAsked k n q text es cs
-    asked_after_when = record { inside = sp.inside; few_variables = asked.few_variables; few_nodes = asked.few_nodes; room_e = asked.room_e; room_c = asked.room_c }
+    when_then_none y = record { comes = λ p same. when_read k n asked sp p same ∙ y.comes p same }

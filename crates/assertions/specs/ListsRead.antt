@@ -16,10 +16,8 @@ abbrev pub count_of : Point → ℕ
 count_of p = length p.given + length p.expect
 
 -- what a clause is read with
-pub record ClauseAsked (k n i : ℕ) (text es cs : List ℕ) : Type 0 where
+pub record ClauseAsked (i : ℕ) (text es cs : List ℕ) : Type 0 where
   pub inside : i ≤ length text
-  pub few_variables : k ≤ 12
-  pub few_nodes : n ≤ 65536
   pub room_e : records_in es < 504
   pub room_c : records_in cs < 504
 

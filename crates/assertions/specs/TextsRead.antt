@@ -12,12 +12,6 @@ use Rattle.grammar.specs.Bytewise.{ready, reads, stops, reading}
 abbrev pub listing_at : Bool → List Clause → ℕ → Point
 listing_at second gs used = record { second = second; given = gs; expect = []; used = used; phase = listing }
 
--- what both lists are read with
-pub record RestAsked (k n i : ℕ) (text : List ℕ) : Type 0 where
-  pub inside : i ≤ length text
-  pub few_variables : k ≤ 12
-  pub few_nodes : n ≤ 65536
-
 -- whatever clauses were given, the rest of the text, from i on, is `expect` and the expected ones
 pub record RestTo (k n i : ℕ) (text es es' cs cs' : List ℕ) : Type 0 where
   pub expect : List Clause

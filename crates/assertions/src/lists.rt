@@ -16,6 +16,8 @@ use phrases::records::Records;
 pub struct Limits {
     pub k: usize,
     pub n: usize,
+    pub ghost few_variables: { k ≤ 12 },
+    pub ghost few_nodes: { n ≤ 65536 },
 }
 
 // The two lists of a text.
@@ -84,7 +86,7 @@ fn clause(
     side: Side,
     records: &mut TextRecords,
 ) -> Result<usize, Stopped>
-    requires { ClauseAsked limits.k limits.n at text.now records.old.expressions records.old.clauses × Stands text.now at 119 }
+    requires { ClauseAsked at text.now records.old.expressions records.old.clauses × Stands text.now at 119 }
     ensures { ClauseAt limits.k limits.n (side_of side) at text.now records.old.expressions records.new.expressions records.old.clauses records.new.clauses result }
 {
     let end = spell(text, at, b"when")?;
@@ -110,7 +112,7 @@ pub fn list(
     side: Side,
     records: &mut TextRecords,
 ) -> Result<usize, Stopped>
-    requires { (at ≤ length text.now) × (limits.k ≤ 12) × (limits.n ≤ 65536) }
+    requires { at ≤ length text.now }
     ensures { ListAt limits.k limits.n (side_of side) at text.now records.old.expressions records.new.expressions records.old.clauses records.new.clauses result }
 {
     let mut q = skip(text, at);

@@ -1,7 +1,7 @@
 // A whole text: `given` and its clauses, `expect` and its clauses.
 ghost use Rattle.std.specs.Prelude.{◌≡◌, [], ◌&&◌, eqb, ltb, ◌≤◌, length};
 ghost use Rattle.phrases.specs.Places.{NoGap, Stands};
-ghost use Rattle.assertions.specs.TextsRead.{RestAsked, RestAt, TextAt};
+ghost use Rattle.assertions.specs.TextsRead.{RestAt, TextAt};
 
 use crate::lists::{Limits, Side, TextRecords, list};
 use phrases::items::{Stopped, skip, spell};
@@ -20,7 +20,7 @@ fn expected(
     limits: Limits,
     records: &mut TextRecords,
 ) -> Result<(), Stopped>
-    requires { RestAsked limits.k limits.n at text.now × NoGap text.now at × (¬ Stands text.now at 119) }
+    requires { (at ≤ length text.now) × NoGap text.now at × (¬ Stands text.now at 119) }
     ensures { RestAt limits.k limits.n at text.now records.old.expressions records.new.expressions records.old.clauses records.new.clauses result }
 {
     let end = spell(text, at, b"expect")?;
@@ -37,7 +37,7 @@ fn expected(
 
 // The text from its first byte on, where nothing has been read.
 pub fn whole_text(text: &[u8], limits: Limits, records: &mut TextRecords) -> Result<(), Stopped>
-    requires { RestAsked limits.k limits.n 0 text.now × (records.old.expressions ≡ []) × (records.old.clauses ≡ []) }
+    requires { (records.old.expressions ≡ []) × (records.old.clauses ≡ []) }
     ensures { TextAt limits.k limits.n text.now records.new.expressions records.new.clauses result }
 {
     let end = spell(text, skip(text, 0), b"given")?;

@@ -31,7 +31,7 @@ module _ (k n : ℕ) (text : List ℕ) (i : ℕ) (p : Point) (fs : List Frame) {
 pub one_record : (es r : List ℕ) {es' : List ℕ} → es' ≡ es ++ r → length r ≡ 8 → records_in es' ≡ records_in es + 1
 one_record es r put l = omega (arith, ap length put, length-append es r)
 
-module _ {k depth pending i : ℕ} {text es : List ℕ} (asked : GuardAsked k depth pending i text es) where
+module _ {k depth pending i : ℕ} {text es : List ℕ} (asked : GuardAsked pending i text es) where
   -- an operand
   operand_to : {es' r : List ℕ} {q : ℕ} (g : Guard) → size g ≡ 1 → guard_records (records_in es) g ≡ r → length r ≡ 8
       → ((n : ℕ) (p : Point) (fs : List Frame) → wanting k n text i p (records_in es + pending) fs ≡ having k n text (i + 1) p (suc (records_in es + pending)) fs g)
@@ -48,9 +48,9 @@ module _ {k depth pending i : ℕ} {text es : List ℕ} (asked : GuardAsked k de
         comes = λ n p fs d f. goes n p fs ∙ run_gaps k n text (in_phase p (suc (records_in es + pending)) (guarded fs g)) s.over ∙ had k n text q p fs (omega (arith, more)) g;
       }
 
-  pub letter_to : (v : ℕ) {es' : List ℕ} {q : ℕ} → v < k → Stands text i (97 + v) → es' ≡ es ++ expression_record 2 v 0 → Skips text (i + 1) q → GuardTo 4 4 k depth pending i text es es' q
+  pub letter_to : (v : ℕ) {es' : List ℕ} {q : ℕ} → k ≤ 12 → v < k → Stands text i (97 + v) → es' ≡ es ++ expression_record 2 v 0 → Skips text (i + 1) q → GuardTo 4 4 k depth pending i text es es' q
   unfolding size guard_records
-  letter_to v h s = operand_to (letter v) refl refl refl (λ n p fs. letter_goes k n text p (records_in es + pending) fs v asked.few_variables h s)
+  letter_to v few h s = operand_to (letter v) refl refl refl (λ n p fs. letter_goes k n text p (records_in es + pending) fs v few h s)
 
   pub constant_to : (v : ℕ) {es' : List ℕ} {q : ℕ} → v < 2 → Stands text i (48 + v) → es' ≡ es ++ expression_record v 0 0 → Skips text (i + 1) q → GuardTo 4 4 k depth pending i text es es' q
   unfolding size guard_records

@@ -50,10 +50,8 @@ pub record GuardNone (s k depth pending i : ℕ) (text es : List ℕ) (j : ℕ) 
 pub record GuardAt (s k depth pending i : ℕ) (text es es' : List ℕ) (r : Result ℕ Stopped) : Type 0 where
   pub says : MatchResult r (GuardTo s s k depth pending i text es es') (λ j. GuardNone s k depth pending i text es j.at)
 
--- what a guard is read with: a place without a gap, at most 32 brackets open, room for one operand more
-pub record GuardAsked (k depth pending i : ℕ) (text es : List ℕ) : Type 0 where
+-- what a guard is read with: a place without a gap, room for one operand more
+pub record GuardAsked (pending i : ℕ) (text es : List ℕ) : Type 0 where
   pub inside : i ≤ length text
   pub no_gap : NoGap text i
-  pub few_variables : k ≤ 12
-  pub opened : depth ≤ 32
   pub one_more : records_in es + pending < 504

@@ -1,5 +1,5 @@
 // Guards: operands joined by operators, the stronger ones first, down to brackets, inside which stands a whole guard again.
-ghost use Rattle.std.specs.Prelude.{◌≡◌, true, false, suc, MatchOption, MatchResult};
+ghost use Rattle.std.specs.Prelude.{◌≡◌, ◌≤◌, true, false, suc, MatchOption, MatchResult};
 ghost use Rattle.grammar.specs.Items.{SIGN, mark_byte};
 ghost use Rattle.grammar.specs.Guards.{strength};
 ghost use Rattle.grammar.specs.Records.{expression_record, op_of};
@@ -13,14 +13,16 @@ use crate::records::Records;
 
 // What stands around an operand: the variables that it may name, the brackets open, and the operators that wait for it.
 #[derive(Clone, Copy, Debug, PartialEq, Eq)]
-pub struct Nesting {
-    pub k: usize,
-    pub depth: usize,
-    pub pending: usize,
+struct Nesting {
+    k: usize,
+    depth: usize,
+    pending: usize,
+    ghost few_variables: { k ≤ 12 },
+    ghost opened: { depth ≤ 32 },
 }
 
 #[derive(Clone, Copy, Debug, PartialEq, Eq)]
-pub enum Operator {
+enum Operator {
     Or,
     Xor,
     And,
@@ -60,7 +62,7 @@ impl Operator {
 }
 
 #[derive(Clone, Copy, Debug, PartialEq, Eq)]
-pub enum Operand {
+enum Operand {
     Constant(u8),
     Variable(u8),
 }
@@ -85,7 +87,7 @@ fn expression(op: u8, a: usize, b: usize) -> [u8; 8]
 
 // A whole guard: the place after it, its records pushed.
 pub fn guard(text: &[u8], at: usize, k: usize, es: &mut Records) -> Result<usize, Stopped>
-    requires { GuardAsked k 0 0 at text.now es.old }
+    requires { GuardAsked 0 at text.now es.old × (k ≤ 12) }
     ensures { GuardAt 1 k 0 0 at text.now es.old es.new result }
 {
     let outermost = Nesting {
@@ -105,7 +107,7 @@ fn joined(
     es: &mut Records,
     operator: Operator,
 ) -> Result<usize, Stopped>
-    requires { GuardAsked around.k around.depth around.pending at text.now es.old }
+    requires { GuardAsked around.pending at text.now es.old }
     ensures { GuardAt (strength (operator_of operator)) around.k around.depth around.pending at text.now es.old es.new result }
 {
     let mut end = side(text, at, around, es, operator)?;
@@ -115,8 +117,9 @@ fn joined(
         }
         let left = es.count() - 1;
         let waiting = Nesting {
+            k: around.k,
+            depth: around.depth,
             pending: around.pending + 1,
-            ..around
         };
         let next = side(text, skip(text, end + 1), waiting, es, operator)?;
         let right = es.count() - 1;
@@ -135,7 +138,7 @@ fn side(
     es: &mut Records,
     operator: Operator,
 ) -> Result<usize, Stopped>
-    requires { GuardAsked around.k around.depth around.pending at text.now es.old }
+    requires { GuardAsked around.pending at text.now es.old }
     ensures { GuardAt (suc (strength (operator_of operator))) around.k around.depth around.pending at text.now es.old es.new result }
 {
     match operator.next_stronger() {
@@ -147,30 +150,29 @@ fn side(
 // '!' and what it negates, a group in brackets, a variable or a constant
 #[cycle(levels)]
 fn single(text: &[u8], at: usize, around: Nesting, es: &mut Records) -> Result<usize, Stopped>
-    requires { GuardAsked around.k around.depth around.pending at text.now es.old }
+    requires { GuardAsked around.pending at text.now es.old }
     ensures { GuardAt 4 around.k around.depth around.pending at text.now es.old es.new result }
 {
-    if is_at(text, at, b'!') {
-        return negated(text, at, around, es);
+    match text.get(at) {
+        Some(b'!') => negated(text, at, around, es),
+        Some(b'(') => grouped(text, at, around, es),
+        _ => plain(text, at, around, es),
     }
-    if is_at(text, at, b'(') {
-        return grouped(text, at, around, es);
-    }
-    plain(text, at, around, es)
 }
 
 // '!' stands at this place.
 #[cycle(levels)]
 fn negated(text: &[u8], at: usize, around: Nesting, es: &mut Records) -> Result<usize, Stopped>
-    requires { GuardAsked around.k around.depth around.pending at text.now es.old × (is_at text.now at 33 ≡ true) }
+    requires { GuardAsked around.pending at text.now es.old × (is_at text.now at 33 ≡ true) }
     ensures { GuardAt 4 around.k around.depth around.pending at text.now es.old es.new result }
 {
     if !es.has_room(around.pending + 2) {
         return Err(Stopped { at });
     }
     let waiting = Nesting {
+        k: around.k,
+        depth: around.depth,
         pending: around.pending + 1,
-        ..around
     };
     let end = single(text, skip(text, at + 1), waiting, es)?;
     let inner = es.count() - 1;
@@ -181,15 +183,16 @@ fn negated(text: &[u8], at: usize, around: Nesting, es: &mut Records) -> Result<
 // '(' stands at this place.
 #[cycle(levels)]
 fn grouped(text: &[u8], at: usize, around: Nesting, es: &mut Records) -> Result<usize, Stopped>
-    requires { GuardAsked around.k around.depth around.pending at text.now es.old × (is_at text.now at 40 ≡ true) }
+    requires { GuardAsked around.pending at text.now es.old × (is_at text.now at 40 ≡ true) }
     ensures { GuardAt 4 around.k around.depth around.pending at text.now es.old es.new result }
 {
     if around.depth >= DEPTH {
         return Err(Stopped { at });
     }
     let inside = Nesting {
+        k: around.k,
         depth: around.depth + 1,
-        ..around
+        pending: around.pending,
     };
     let end = joined(text, skip(text, at + 1), inside, es, Operator::Or)?;
     if !is_at(text, end, b')') {
@@ -200,7 +203,7 @@ fn grouped(text: &[u8], at: usize, around: Nesting, es: &mut Records) -> Result<
 
 // A variable or a constant, if one stands here.
 fn plain(text: &[u8], at: usize, around: Nesting, es: &mut Records) -> Result<usize, Stopped>
-    requires { GuardAsked around.k around.depth around.pending at text.now es.old × (is_at text.now at 33 ≡ false) × (is_at text.now at 40 ≡ false) }
+    requires { GuardAsked around.pending at text.now es.old × (is_at text.now at 33 ≡ false) × (is_at text.now at 40 ≡ false) }
     ensures { GuardAt 4 around.k around.depth around.pending at text.now es.old es.new result }
 {
     match operand_at(text, at, around.k)? {

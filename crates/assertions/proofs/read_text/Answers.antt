@@ -1,11 +1,13 @@
 -- `read_text`: the limits, the text, the room; then both lists are written.
 -- Assumes nothing.
 use Rattle.std.proofs.lemmas.Result.{err_from_is_err_and}
-use Rattle.assertions.proofs.AnswerLaws.{text_asked, refused_text, refused_room, written}
+use Rattle.assertions.proofs.AnswerLaws.{limits_few, refused_text, refused_room, written}
 use Rattle.assertions.proofs.read_text.Goals as goal
 
-pub whole_text-requires : goal.whole_text-requires
-whole_text-requires c = (text_asked c.args.k c.args.n c.in_limits.ensures c.if-not-in_limits.false, c.new.ensures, c.new-2.ensures)
+pub invariant_of-whole_text : goal.invariant_of-whole_text
+invariant_of-whole_text c =
+    let (few_k, few_n) = limits_few c.args.k c.args.n c.in_limits.ensures c.if-not-in_limits.false in
+    record { few_variables = few_k; few_nodes = few_n }
 
 pub returns-in_err-whole_text : goal.returns-in_err-whole_text
 returns-in_err-whole_text c =

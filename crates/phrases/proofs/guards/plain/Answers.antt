@@ -20,5 +20,5 @@ returns c =
           rw w.es-is (record { says = constant_to c.requires.0 w.in-Constant.v here.0 here.1 (rw w.expression.ensures at w.push.ensures) c.skip.ensures })
       | in-Variable w ↦
           let here = rw w.in-Variable.is at c.in_ok-v.ensures in
-          rw w.es-is (record { says = letter_to c.requires.0 w.in-Variable.v here.0 here.1 (rw (w.expression-in-Variable.ensures, w.from.ensures) at w.push-in-Variable.ensures) c.skip.ensures })
+          rw w.es-is (record { says = letter_to c.requires.0 w.in-Variable.v c.args.around.few_variables here.0 here.1 (rw (w.expression-in-Variable.ensures, w.from.ensures) at w.push-in-Variable.ensures) c.skip.ensures })
     ]
