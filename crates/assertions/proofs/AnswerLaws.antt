@@ -13,7 +13,7 @@ use Rattle.stored.proofs.RuleTests.{limits_rule}
 use Rattle.texts.specs.Putting.{Puts}
 use Rattle.texts.proofs.PutLaws.{front_all}
 use Rattle.std.specs.Prelude.{Ok, Err}
-use Rattle.assertions.specs.declared.TextRefusal.TheVariants.{Header, Text, Room as ListTooShort}
+use Rattle.assertions.specs.declared.TextRefusal.TheVariants.{Text, Room as ListTooShort}
 use Rattle.grammar.specs.Grammar.{Reads, limits}
 use Rattle.assertions.specs.Answering.{Room, Answered}
 use Rattle.assertions.specs.TextsRead.{TextTo, TextNone}
@@ -25,9 +25,6 @@ within k n {t} t-is h = sym t-is ∙ h
 
 kept : (k n : ℕ) → limits k n ≡ true → Limits (record { k = k; n = n; e = 0; c = 0 })
 kept k n l = (limits_rule (record { k = k; n = n; e = 0; c = 0 })).0 l
-
-pub refused_limits : (k n : ℕ) {text expressions clauses : List ℕ} {t : Bool} → t ≡ limits k n → t ≡ false → Answered k n text expressions clauses expressions clauses (Err Header)
-refused_limits k n {t = t} t-is h = record { says = record { why = sym t-is ∙ h; expressions_stay = refl; clauses_stay = refl } }
 
 pub limits_few : (k n : ℕ) {t : Bool} → t ≡ limits k n → t ≡ true → (k ≤ 12) × (n ≤ 65536)
 limits_few k n t-is h = let l = kept k n (within k n t-is h) in (l.k_most, omega (arith, l.n_most))

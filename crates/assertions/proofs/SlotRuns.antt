@@ -89,17 +89,7 @@ pub record Counting (text : List ℕ) (limit i q v : ℕ) : Type 0 where
   pub small : i < q → v < limit
   pub comes : i < q → (k n : ℕ) (p : Point) (used : ℕ) (g : Guard) (s : Slot) (ss : List Slot) (ns : List ℕ) → awaiting k n text i (ready false) p used g (below limit ∷ s ∷ ss) ns ≡ awaiting k n text q (digits v) p used g (below limit ∷ s ∷ ss) ns
 
-pub counting_none : (text : List ℕ) (limit i : ℕ) → i ≤ length text → Counting text limit i i 0
-counting_none text limit i h = record { forward = omega arith; inside = h; none_yet = λ _. refl; small = λ l. absurd (omega arith); comes = λ l. absurd (omega arith) }
-
 module _ {text : List ℕ} {limit i q v : ℕ} (c : Counting text limit i q v) where
-  pub counting_most : limit ≤ 65536 → v < 65536
-  counting_most h = go (dec_lt i q)
-    where
-      go : Dec (i < q) → v < 65536
-      go (yes l) = omega (arith, c.small l)
-      go (no l) = omega (arith, c.none_yet (omega (arith, c.forward)))
-
   -- one digit more, of value x
   module _ {x : ℕ} (d : Digit text q) (same : x ≡ byte_at text q - 48) (some : (i < q) × ¬ (v ≡ 0) ⊎ (q ≤ i)) where
     counted : (k n : ℕ) (p : Point) (used : ℕ) (g : Guard) (s : Slot) (ss : List Slot) (ns : List ℕ) → awaiting k n text i (ready false) p used g (below limit ∷ s ∷ ss) ns ≡ made k n text p used g limit s ss ns q (10 * v + x)

@@ -1,6 +1,6 @@
 -- What reading the lists of a text and the whole of it comes to.
 -- Assumes nothing.
-use Rattle.std.specs.Prelude.{◌≡◌, Bool, false, List, [], ◌++◌, ℕ, ◌≤◌, length, Result, MatchResult}
+use Rattle.std.specs.Prelude.{◌≡◌, Bool, false, List, [], ◌++◌, ℕ, length, Result, MatchResult}
 use Rattle.phrases.specs.declared.items.Stopped.{Stopped}
 use Rattle.phrases.specs.GuardsRead.{records_in}
 use Rattle.grammar.specs.Grammar.{Clause, Text}

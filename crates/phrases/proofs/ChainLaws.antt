@@ -1,40 +1,19 @@
 -- Operands joined by one operator, left to right: stated once over the operator.
 -- Assumes nothing.
-use mathlib.Core.Path.{◌≡◌, refl, ◌∙◌, ap}
+use mathlib.Core.Path.{◌≡◌, refl, ◌∙◌}
 use mathlib.Core.List.{List, ◌∷◌, ◌++◌, append_assoc}
-use native.Mathlib.Decide.{dec_lt}
 use native.Mathlib.Omega.{arith}
 use Prim.Native.Nat.{ℕ, suc, ◌+◌, ◌*◌, ◌≤◌, ◌<◌}
 use lib.ListN.{length}
-use Rattle.stored.specs.Bytes.{byte_at}
-use Rattle.grammar.specs.Items.{Operator, AND, XOR, OR, SIGN, mark_byte}
+use Rattle.grammar.specs.Items.{Operator, SIGN, mark_byte}
 use Rattle.grammar.specs.Guards.{Guard, joined, strength, size}
 use Rattle.grammar.specs.Records.{expression_record, op_of, guard_place, guard_records}
 use Rattle.grammar.specs.Points.{Frame, joining, groups, Point, Fresh}
 use Rattle.phrases.specs.Places.{Stands, Skips}
-use Rattle.phrases.specs.GuardsRead.{wanting, Over, GuardTo, GuardNone, records_in}
-use Rattle.grammar.proofs.Frames.{fresh_from, fresh_joining}
+use Rattle.phrases.specs.GuardsRead.{wanting, GuardTo, GuardNone, records_in}
+use Rattle.grammar.proofs.Frames.{fresh_joining}
 use Rattle.phrases.proofs.FrameLaws.{sign_goes, sign_stops, joined_up}
 use Rattle.phrases.proofs.LevelLaws.{wanted, had, one_record}
-
-same_strength : (a b : Operator) → strength a ≡ strength b → a ≡ b
-same_strength AND AND e = refl
-same_strength AND XOR e = absurd (omega arith)
-same_strength AND OR e = absurd (omega arith)
-same_strength XOR AND e = absurd (omega arith)
-same_strength XOR XOR e = refl
-same_strength XOR OR e = absurd (omega arith)
-same_strength OR AND e = absurd (omega arith)
-same_strength OR XOR e = absurd (omega arith)
-same_strength OR OR e = refl
-
--- where the operator does not stand, none of its strength or above does
-over_all : (o : Operator) {text : List ℕ} {q : ℕ} → Over (suc (strength o)) text q → ¬ Stands text q (mark_byte (SIGN o)) → Over (strength o) text q
-over_all o {text} {q} v not_here = record { inside = v.inside; no_gap = v.no_gap; no_sign = λ h o' l e. go h o' l e (dec_lt (strength o) (strength o')) }
-  where
-    go : q < length text → (o' : Operator) → strength o ≤ strength o' → byte_at text q ≡ mark_byte (SIGN o') → Dec (strength o < strength o') → ⊥
-    go h o' l e (yes x) = v.no_sign h o' x e
-    go h o' l e (no x) = let same : o' ≡ o = same_strength o' o (omega arith) in not_here (record { inside = h; is = e ∙ ap (λ a. mark_byte (SIGN a)) same })
 
 joined_put : (o : Operator) (g h : Guard) (e : ℕ) (es : List ℕ) {es₁ es₂ es₃ : List ℕ} → es₁ ≡ es ++ guard_records e g → es₂ ≡ es₁ ++ guard_records (e + size g) h
     → es₃ ≡ es₂ ++ expression_record (op_of o) (guard_place e g) (guard_place (e + size g) h) → es₃ ≡ es ++ guard_records e (joined o g h)
@@ -42,18 +21,7 @@ unfolding guard_records
 joined_put o g h e es p q r = rw (r, q, p) (simp append_assoc)
 
 module _ (o : Operator) {k depth pending i : ℕ} {text es : List ℕ} where
-  -- the first operand
-  pub chain_first : {es' : List ℕ} {q : ℕ} → GuardTo (suc (strength o)) (suc (strength o)) k depth pending i text es es' q → GuardTo (strength o) (suc (strength o)) k depth pending i text es es' q
-  chain_first g = record { guard = g.guard; past = g.past; over = g.over; count = g.count; few = g.few; put = g.put; comes = λ n p fs d fr. g.comes n p fs d (fresh_from (omega arith) fr) }
-
-  pub chain_nothing : {q : ℕ} → GuardNone (suc (strength o)) k depth pending i text es q → GuardNone (strength o) k depth pending i text es q
-  chain_nothing g = record { comes = λ n p fs d fr. g.comes n p fs d (fresh_from (omega arith) fr) }
-
   module _ {es₁ : List ℕ} {q : ℕ} (g : GuardTo (strength o) (suc (strength o)) k depth pending i text es es₁ q) where
-    -- the operator does not stand here: the guard is whole
-    pub chain_end : ¬ Stands text q (mark_byte (SIGN o)) → GuardTo (strength o) (strength o) k depth pending i text es es₁ q
-    chain_end not_here = record { guard = g.guard; past = g.past; over = over_all o g.over not_here; count = g.count; few = g.few; put = g.put; comes = g.comes }
-
     -- no room for it
     pub chain_full : Stands text q (mark_byte (SIGN o)) → 504 < records_in es₁ + (pending + 2) → GuardNone (strength o) k depth pending i text es q
     chain_full s full = record { comes = λ n p fs d fr. g.comes n p fs d fr ∙ sign_stops k n text p (records_in es₁ + pending) fs o g.guard s (omega arith) }
