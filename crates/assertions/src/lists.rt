@@ -20,22 +20,11 @@ pub struct Limits {
     pub ghost few_nodes: { n ≤ 65536 },
 }
 
-// The two lists of a text.
+// The two lists of a text, by their numbers in a clause's record.
 #[derive(Clone, Copy, Debug, PartialEq, Eq)]
 pub enum Side {
     Given,
     Expect,
-}
-
-impl Side {
-    fn number(self) -> u8
-        ensures { result ≡ side_of self }
-    {
-        match self {
-            Side::Given => 0,
-            Side::Expect => 1,
-        }
-    }
 }
 
 // What was read so far: the clauses, and the expressions of their guards.
@@ -60,7 +49,7 @@ fn clause_record(side: Side, told: Told, guard: usize) -> [u8; 8]
     ensures { result ≡ clause_bytes (side_of side) told.value told.node told.time guard }
 {
     [
-        side.number(),
+        side as u8,
         told.value as u8,
         (told.node % 256) as u8,
         (told.node / 256 % 256) as u8,

@@ -5,7 +5,9 @@ use mathlib.Core.List.{List, ◌∷◌, ◌++◌, append_assoc}
 use native.Mathlib.Omega.{arith}
 use Prim.Native.Nat.{ℕ, suc, ◌+◌, ◌*◌, ◌≤◌, ◌<◌}
 use lib.ListN.{length, length-append}
-use Rattle.phrases.specs.Operands.{NoOperand}
+use Rattle.phrases.specs.declared.guards.Operand.{Operand}
+use Rattle.phrases.specs.declared.guards.Operand.TheVariants.{False, True, Variable}
+use Rattle.phrases.specs.Operands.{OperandHere, NoOperand, operand_record}
 use Rattle.grammar.specs.Guards.{Guard, letter, constant, complement, bracketed, size}
 use Rattle.grammar.specs.Records.{expression_record, guard_place, guard_records}
 use Rattle.grammar.specs.Points.{Frame, negating, grouping, groups, guarded, Point}
@@ -48,13 +50,11 @@ module _ {k depth pending i : ℕ} {text es : List ℕ} (asked : GuardAsked pend
         comes = λ n p fs d f. goes n p fs ∙ run_gaps k n text (in_phase p (suc (records_in es + pending)) (guarded fs g)) s.over ∙ had k n text q p fs (omega (arith, more)) g;
       }
 
-  pub letter_to : (v : ℕ) {es' : List ℕ} {q : ℕ} → k ≤ 12 → v < k → Stands text i (97 + v) → es' ≡ es ++ expression_record 2 v 0 → Skips text (i + 1) q → GuardTo 4 4 k depth pending i text es es' q
+  pub plain_to : (o : Operand) {es' : List ℕ} {q : ℕ} → k ≤ 12 → OperandHere k text i o → es' ≡ es ++ operand_record o → Skips text (i + 1) q → GuardTo 4 4 k depth pending i text es es' q
   unfolding size guard_records
-  letter_to v few h s = operand_to (letter v) refl refl refl (λ n p fs. letter_goes k n text p (records_in es + pending) fs v few h s)
-
-  pub constant_to : (v : ℕ) {es' : List ℕ} {q : ℕ} → v < 2 → Stands text i (48 + v) → es' ≡ es ++ expression_record v 0 0 → Skips text (i + 1) q → GuardTo 4 4 k depth pending i text es es' q
-  unfolding size guard_records
-  constant_to v h s = operand_to (constant v) refl refl refl (λ n p fs. constant_goes k n text p (records_in es + pending) fs v h s)
+  plain_to False few h = operand_to (constant 0) refl refl refl (λ n p fs. constant_goes k n text p (records_in es + pending) fs 0 (omega arith) h)
+  plain_to True few h = operand_to (constant 1) refl refl refl (λ n p fs. constant_goes k n text p (records_in es + pending) fs 1 (omega arith) h)
+  plain_to (Variable v) few h = operand_to (letter v) refl refl refl (λ n p fs. letter_goes k n text p (records_in es + pending) fs v few h.0 h.1)
 
   pub operand_none : ¬ Stands text i 33 → ¬ Stands text i 40 → NoOperand k text i → GuardNone 4 k depth pending i text es i
   operand_none a b here = record { comes = λ n p fs _ _. wanting_stops k n text p (records_in es + pending) fs a b asked.no_gap here.no-0 here.no-1 here.no_letter }

@@ -4,8 +4,8 @@ ghost use Rattle.grammar.specs.Items.{SIGN, mark_byte};
 ghost use Rattle.grammar.specs.Guards.{strength};
 ghost use Rattle.grammar.specs.Records.{expression_record, op_of};
 ghost use Rattle.phrases.specs.Places.{is_at};
-ghost use Rattle.phrases.specs.Operators.{operator_of};
-ghost use Rattle.phrases.specs.Operands.{OperandHere, NoOperand};
+ghost use Rattle.phrases.specs.Operators.{operator_of, number_of};
+ghost use Rattle.phrases.specs.Operands.{OperandHere, NoOperand, operand_record};
 ghost use Rattle.phrases.specs.GuardsRead.{GuardAt, GuardAsked};
 
 use crate::items::{Stopped, is_at, skip};
@@ -39,14 +39,13 @@ impl Operator {
         }
     }
 
-    // Its operation in a record.
-    fn operation(self) -> u8
-        ensures { result ≡ op_of (operator_of self) }
+    fn operation(self) -> Operation
+        ensures { number_of result ≡ op_of (operator_of self) }
     {
         match self {
-            Operator::Or => 5,
-            Operator::Xor => 6,
-            Operator::And => 4,
+            Operator::Or => Operation::Or,
+            Operator::Xor => Operation::Xor,
+            Operator::And => Operation::And,
         }
     }
 
@@ -61,20 +60,23 @@ impl Operator {
     }
 }
 
+// What an expression computes, by its number in the record.
 #[derive(Clone, Copy, Debug, PartialEq, Eq)]
-enum Operand {
-    Constant(u8),
-    Variable(u8),
+enum Operation {
+    False,
+    True,
+    Variable,
+    Not,
+    And,
+    Or,
+    Xor,
 }
 
-const DEPTH: usize = 32;
-
-// An expression's record: its operation and operands.
-fn expression(op: u8, a: usize, b: usize) -> [u8; 8]
-    ensures { result ≡ expression_record op a b }
+fn expression(operation: Operation, a: usize, b: usize) -> [u8; 8]
+    ensures { result ≡ expression_record (number_of operation) a b }
 {
     [
-        op,
+        operation as u8,
         0,
         (a % 256) as u8,
         (a / 256 % 256) as u8,
@@ -84,6 +86,27 @@ fn expression(op: u8, a: usize, b: usize) -> [u8; 8]
         0,
     ]
 }
+
+#[derive(Clone, Copy, Debug, PartialEq, Eq)]
+enum Operand {
+    False,
+    True,
+    Variable(u8),
+}
+
+impl Operand {
+    fn expression(self) -> [u8; 8]
+        ensures { result ≡ operand_record self }
+    {
+        match self {
+            Operand::False => expression(Operation::False, 0, 0),
+            Operand::True => expression(Operation::True, 0, 0),
+            Operand::Variable(v) => expression(Operation::Variable, usize::from(v), 0),
+        }
+    }
+}
+
+const DEPTH: usize = 32;
 
 // A whole guard: the place after it, its records pushed.
 pub fn guard(text: &[u8], at: usize, k: usize, es: &mut Records) -> Result<usize, Stopped>
@@ -176,7 +199,7 @@ fn negated(text: &[u8], at: usize, around: Nesting, es: &mut Records) -> Result<
     };
     let end = single(text, skip(text, at + 1), waiting, es)?;
     let inner = es.count() - 1;
-    es.push(expression(3, inner, 0));
+    es.push(expression(Operation::Not, inner, 0));
     Ok(end)
 }
 
@@ -206,10 +229,8 @@ fn plain(text: &[u8], at: usize, around: Nesting, es: &mut Records) -> Result<us
     requires { GuardAsked around.pending at text.now es.old × (is_at text.now at 33 ≡ false) × (is_at text.now at 40 ≡ false) }
     ensures { GuardAt 4 around.k around.depth around.pending at text.now es.old es.new result }
 {
-    match operand_at(text, at, around.k)? {
-        Operand::Constant(v) => es.push(expression(v, 0, 0)),
-        Operand::Variable(v) => es.push(expression(2, usize::from(v), 0)),
-    }
+    let operand = operand_at(text, at, around.k)?;
+    es.push(operand.expression());
     Ok(skip(text, at + 1))
 }
 
@@ -218,8 +239,8 @@ fn operand_at(text: &[u8], at: usize, k: usize) -> Result<Operand, Stopped>
     ensures { MatchResult result (OperandHere k text.now at) (λ s. (s.at ≡ at) × NoOperand k text.now at) }
 {
     match text.get(at) {
-        Some(b'0') => Ok(Operand::Constant(0)),
-        Some(b'1') => Ok(Operand::Constant(1)),
+        Some(b'0') => Ok(Operand::False),
+        Some(b'1') => Ok(Operand::True),
         Some(b) if *b >= b'a' && usize::from(*b - b'a') < k => Ok(Operand::Variable(*b - b'a')),
         _ => Err(Stopped { at }),
     }
