@@ -16,7 +16,7 @@ use Rattle.scans.proofs.Bools.{says, both_ways}
 use Rattle.stored.specs.Bytes.{byte_at}
 use Rattle.std.specs.Prelude.{Result, MatchResult, Ok, Err}
 use Rattle.phrases.specs.declared.items.Stopped.{Stopped}
-use Rattle.assertions.specs.declared.clauses.Counted.{Counted}
+use Rattle.assertions.specs.declared.parts.Counted.{Counted}
 use Rattle.grammar.specs.Items.{Keyword, Mark, number, word, letters}
 use Rattle.grammar.specs.Guards.{Guard}
 use Rattle.grammar.specs.Points.{Slot, saying, below, telling, Point, word_number, ended, step, finished}

@@ -67,7 +67,5 @@ module _ {text : List ℕ} {n i a : ℕ} (sk : Skips text i a) where
             record {
               past = omega (arith, sk.over.forward, f.past, v.1.past, t.1.past, sk'.over.forward);
               inside = omega (arith, s.inside);
-              binary = v.0;
-              in_time = t.0;
               comes = λ k m p used g. on_end k m p used g ∙ gaps_mark k m text (in_phase p used (telling g (ending ∷ []) (node ∷ value ∷ time ∷ []))) sk' true SEMICOLON s refl;
             }

@@ -3,6 +3,7 @@
 
 mod clauses;
 mod lists;
+mod parts;
 mod reading;
 
 ghost use Rattle.std.specs.Prelude.{◌≡◌, ◌&&◌, leb};
@@ -11,7 +12,7 @@ ghost use Rattle.assertions.specs.Answering.{Answered};
 ghost use Rattle.assertions.specs.Refusals.{number_of, byte_of};
 ghost use Rattle.assertions.specs.declared.TextRefusal.TheVariants.{Text};
 
-use crate::lists::{Limits, TextRecords};
+use crate::parts::{Limits, TextRecords};
 use crate::reading::whole_text;
 use blocks::layout::limits_ok;
 use phrases::items::Stopped;

@@ -1,62 +1,26 @@
 // Clauses one after the other.
-ghost use Rattle.std.specs.Prelude.{◌≡◌, ◌↔◌, not, ◌&&◌, ◌≤◌, ◌<◌, eqb, length, IsTrue};
+ghost use Rattle.std.specs.Prelude.{◌≡◌, not, ◌&&◌, ◌≤◌, eqb, length};
 ghost use Rattle.grammar.specs.Records.{clause_bytes};
 ghost use Rattle.phrases.specs.Places.{is_at, Stands};
-ghost use Rattle.phrases.specs.GuardsRead.{records_in};
 ghost use Rattle.assertions.specs.Sides.{side_of};
 ghost use Rattle.assertions.specs.ListsRead.{ClauseAsked, ClauseAt, ListAt};
 
-use crate::clauses::{Told, said};
+use crate::clauses::said;
+use crate::parts::{Limits, Side, TextRecords, Told};
 use phrases::guards::guard;
 use phrases::items::{Stopped, is_at, skip, spell};
-use phrases::records::Records;
-
-// How many variables and nodes there are.
-#[derive(Clone, Copy, Debug, PartialEq, Eq)]
-pub struct Limits {
-    pub k: usize,
-    pub n: usize,
-    pub ghost few_variables: { k ≤ 12 },
-    pub ghost few_nodes: { n ≤ 65536 },
-}
-
-// The two lists of a text, by their numbers in a clause's record.
-#[derive(Clone, Copy, Debug, PartialEq, Eq)]
-pub enum Side {
-    Given,
-    Expect,
-}
-
-// What was read so far: the clauses, and the expressions of their guards.
-#[derive(Drop)]
-pub struct TextRecords {
-    pub expressions: Records,
-    pub clauses: Records,
-}
-
-impl TextRecords {
-    // For another clause, and its guard.
-    fn has_room(&self) -> bool
-        ensures { IsTrue result ↔ ((records_in self.now.expressions < 504) × (records_in self.now.clauses < 504)) }
-    {
-        self.expressions.has_room(1) && self.clauses.has_room(1)
-    }
-}
+use phrases::records::two_bytes;
 
 // A clause's eight bytes.
 fn clause_record(side: Side, told: Told, guard: usize) -> [u8; 8]
-    requires { told.value < 2 }
     ensures { result ≡ clause_bytes (side_of side) told.value told.node told.time guard }
 {
+    let value = told.value as u8;
+    let [node0, node1] = two_bytes(told.node);
+    let [time0, time1] = two_bytes(told.time);
+    let [guard0, guard1] = two_bytes(guard);
     [
-        side as u8,
-        told.value as u8,
-        (told.node % 256) as u8,
-        (told.node / 256 % 256) as u8,
-        (told.time % 256) as u8,
-        (told.time / 256 % 256) as u8,
-        (guard % 256) as u8,
-        (guard / 256 % 256) as u8,
+        side as u8, value, node0, node1, time0, time1, guard0, guard1,
     ]
 }
 
@@ -87,7 +51,7 @@ fn clause(
     if !is_at(text, colon, b':') {
         return Err(Stopped { at: colon });
     }
-    let told = said(text, colon + 1, limits.n)?;
+    let told = said(text, colon + 1, limits)?;
     let guard = records.expressions.count() - 1;
     records.clauses.push(clause_record(side, told, guard));
     Ok(told.at)

@@ -3,7 +3,8 @@ ghost use Rattle.std.specs.Prelude.{◌≡◌, [], ◌&&◌, eqb, ltb, ◌≤◌
 ghost use Rattle.phrases.specs.Places.{NoGap, Stands};
 ghost use Rattle.assertions.specs.TextsRead.{RestAt, TextAt};
 
-use crate::lists::{Limits, Side, TextRecords, list};
+use crate::lists::list;
+use crate::parts::{Limits, Side, TextRecords};
 use phrases::items::{Stopped, skip, spell};
 
 // A word ends at `at`, and something stands there.

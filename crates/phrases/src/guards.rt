@@ -9,7 +9,7 @@ ghost use Rattle.phrases.specs.Operands.{OperandHere, NoOperand, operand_record}
 ghost use Rattle.phrases.specs.GuardsRead.{GuardAt, GuardAsked};
 
 use crate::items::{Stopped, is_at, skip};
-use crate::records::Records;
+use crate::records::{Records, two_bytes};
 
 // What stands around an operand: the variables that it may name, the brackets open, and the operators that wait for it.
 #[derive(Clone, Copy, Debug, PartialEq, Eq)]
@@ -75,16 +75,9 @@ enum Operation {
 fn expression(operation: Operation, a: usize, b: usize) -> [u8; 8]
     ensures { result ≡ expression_record (number_of operation) a b }
 {
-    [
-        operation as u8,
-        0,
-        (a % 256) as u8,
-        (a / 256 % 256) as u8,
-        (b % 256) as u8,
-        (b / 256 % 256) as u8,
-        0,
-        0,
-    ]
+    let [a0, a1] = two_bytes(a);
+    let [b0, b1] = two_bytes(b);
+    [operation as u8, 0, a0, a1, b0, b1, 0, 0]
 }
 
 #[derive(Clone, Copy, Debug, PartialEq, Eq)]

@@ -1,5 +1,6 @@
 // A list of records of eight bytes, as many as a job holds.
-ghost use Rattle.std.specs.Prelude.{◌≡◌, ℕ, ◌+◌, ◌*◌, ◌/◌, ◌≤◌, ◌<◌, ◌++◌, ◌↔◌, List, [], length, take, IsTrue};
+ghost use Rattle.std.specs.Prelude.{◌≡◌, ℕ, ◌+◌, ◌*◌, ◌/◌, ◌≤◌, ◌<◌, ◌++◌, ◌↔◌, List, [], ◌∷◌, length, take, IsTrue};
+ghost use Rattle.stored.specs.Bytes.{digit};
 
 use std::marker::Model;
 use texts::put_text;
@@ -56,4 +57,11 @@ impl Records {
     {
         &self.bytes[..8 * self.count]
     }
+}
+
+// A number's two low bytes, the lower first.
+pub fn two_bytes(x: usize) -> [u8; 2]
+    ensures { result ≡ digit x 0 ∷ digit x 1 ∷ [] }
+{
+    [(x % 256) as u8, (x / 256 % 256) as u8]
 }
