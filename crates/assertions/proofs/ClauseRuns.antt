@@ -43,7 +43,7 @@ module _ (k n : ℕ) (text : List ℕ) (p : Point) (e : ℕ) where
   marked_same m s = run_mark k n text true (in_phase p e (guarding [])) m s ∙ sym (run_mark k n text false (in_phase p e (guarding [])) m s)
 
   untouched_goes : {i q : ℕ} → Skips text i q → eqb q i && (not (is_at text q 33) && not (is_at text q 40)) ≡ false → reading k n text i (ready true) (in_phase p e (guarding [])) ≡ wanting k n text q p e []
-  untouched_goes {i} {q} sk t = run_past k n text true (in_phase p e (guarding [])) sk.over (λ same. opening same (is_at text q 33) (is_at text q 40) refl refl) refl
+  untouched_goes {i} {q} sk t = run_past k n text true (in_phase p e (guarding [])) sk (λ same. opening same (is_at text q 33) (is_at text q 40) refl refl) refl
     where
       opening : q ≡ i → (a b : Bool) → is_at text q 33 ≡ a → is_at text q 40 ≡ b → reading k n text q (ready true) (in_phase p e (guarding [])) ≡ wanting k n text q p e []
       opening same true b x y = marked_same NOT (stands refl x)
@@ -96,7 +96,7 @@ module _ {k n i q : ℕ} {text es cs : List ℕ} {t : Bool} (sk : Skips text i q
             let place_is : place ≡ guard_place (records_in es) g.guard = omega (arith, g.count) in
             record {
               clause = record { guard = g.guard; node = node; value = value; time = time };
-              past = omega (arith, sk.over.forward, g.past, x.past);
+              past = omega (arith, sk.forward, g.past, x.past);
               inside = x.inside;
               count = g.count;
               put_guard = g.put;

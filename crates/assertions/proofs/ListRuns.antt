@@ -66,13 +66,13 @@ unfolding sizes list_expressions list_clauses
 list_none {k} {n} {i} {q} {text} {es} {cs} side sk =
     record {
       clauses = [];
-      inside = sk.over.inside;
+      inside = sk.inside;
       no_gap = sk.ends;
       count_e = omega arith;
       count_c = omega arith;
       put_e = sym (append-nil es);
       put_c = sym (append-nil cs);
-      comes = λ p same. run_gaps k n text (in_phase p (records_in es) listing) sk.over ∙ ap (reading k n text q (ready false)) (sym (none_added p.second p.given p.expect (records_in es)));
+      comes = λ p same. run_gaps k n text (in_phase p (records_in es) listing) sk ∙ ap (reading k n text q (ready false)) (sym (none_added p.second p.given p.expect (records_in es)));
     }
 
 module _ {k n side i q : ℕ} {text es es₁ cs cs₁ : List ℕ} (l : ListTo k n side i text es es₁ cs cs₁ q) where
@@ -86,7 +86,7 @@ module _ {k n side i q : ℕ} {text es es₁ cs cs₁ : List ℕ} (l : ListTo k 
       let e_is : records_in es₁ ≡ records_in es + sizes here = l.count_e in
       record {
         clauses = here ++ x.clause ∷ [];
-        inside = sk.over.inside;
+        inside = sk.inside;
         no_gap = sk.ends;
         count_e = omega (arith, x.count, l.count_e, sizes_snoc here x.clause);
         count_c = omega (arith, l.count_c, length-append here (x.clause ∷ []), one_record cs₁ _ x.put_clause refl);
@@ -94,7 +94,7 @@ module _ {k n side i q : ℕ} {text es es₁ cs cs₁ : List ℕ} (l : ListTo k 
         put_c = clauses_put side (records_in es) cs here x.clause l.put_c (rw e_is at x.put_clause);
         comes = λ p same.
             l.comes p same ∙ x.comes (list_added p (records_in es₁) here) (counted p same)
-            ∙ run_gaps k n text (clause_added (list_added p (records_in es₁) here) (records_in es₂) x.clause) sk.over
+            ∙ run_gaps k n text (clause_added (list_added p (records_in es₁) here) (records_in es₂) x.clause) sk
             ∙ ap (reading k n text v (ready false)) (more_added p.second p.given p.expect here (x.clause ∷ []) (records_in es₂));
       }
 

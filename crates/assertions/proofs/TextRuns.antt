@@ -38,7 +38,7 @@ module _ (k n : ℕ) (text : List ℕ) (gs : List Clause) (e : ℕ) where
       touching_stops k n text (listing_at true gs e) i (λ o. absurd (omega (arith, x.1))) (subst (NoGap text) x.0 sk.ends) (λ m _. refl)
 
   expect_goes : {i q : ℕ} → Skips text i q → eqb q i && ltb i (length text) ≡ false → reading k n text i (ready true) (listing_at true gs e) ≡ reading k n text q (ready false) (listing_at true gs e)
-  expect_goes {i} {q} sk t = run_past k n text true (listing_at true gs e) sk.over (λ same. go same (dec_lt i (length text))) refl
+  expect_goes {i} {q} sk t = run_past k n text true (listing_at true gs e) sk (λ same. go same (dec_lt i (length text))) refl
     where
       go : q ≡ i → Dec (i < length text) → reading k n text q (ready true) (listing_at true gs e) ≡ reading k n text q (ready false) (listing_at true gs e)
       go same (yes h) = both_ways (simp says (same, h)) t
@@ -84,18 +84,18 @@ module _ (k n : ℕ) (text : List ℕ) where
   given_stops : {i j : ℕ} → Skips text 0 i → Broken text i (letters GIVEN) j → reading k n text 0 (ready false) start ≡ stops j
   unfolding step finished
   given_stops {i} sk b =
-      run_gaps k n text start sk.over
+      run_gaps k n text start sk
       ∙ word_stops k n text start GIVEN given_steps (λ f. nothing_goes k n text start i (λ _. refl) sk.ends (λ m _. refl) (λ d _ _. refl) (λ v _. refl) (no_given f)) b
 
   given_goes : {i q : ℕ} → Skips text 0 i → Spelt text i (letters GIVEN) q → reading k n text 0 (ready false) start ≡ reading k n text q (ready true) (listing_at false [] 0)
-  given_goes sk sp = run_gaps k n text start sk.over ∙ word_goes k n text start GIVEN given_steps sp
+  given_goes sk sp = run_gaps k n text start sk ∙ word_goes k n text start GIVEN given_steps sp
 
   given_touched : {i q : ℕ} → Skips text i q → q ≡ i → reading k n text i (ready true) (listing_at false [] 0) ≡ stops i
   unfolding step finished
   given_touched {i} sk same = touching_stops k n text (listing_at false [] 0) i (λ _. refl) (subst (NoGap text) same sk.ends) (λ m _. refl)
 
   given_listed : {i q r : ℕ} → Skips text 0 i → Spelt text i (letters GIVEN) q → Skips text q r → ¬ (r ≡ q) → reading k n text 0 (ready false) start ≡ reading k n text r (ready false) (listing_at false [] 0)
-  given_listed sk sp sk' apart = given_goes sk sp ∙ run_some k n text true (listing_at false [] 0) sk'.over (omega (arith, sk'.over.forward))
+  given_listed sk sp sk' apart = given_goes sk sp ∙ run_some k n text true (listing_at false [] 0) sk' (omega (arith, sk'.forward))
 
 -- `expect` and its list
 module _ {k n i : ℕ} {text es cs : List ℕ} where

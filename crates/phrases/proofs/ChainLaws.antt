@@ -29,7 +29,7 @@ module _ (o : Operator) {k depth pending i : ℕ} {text es : List ℕ} where
     -- one operand more
     module _ {j : ℕ} (s : Stands text q (mark_byte (SIGN o))) (room : records_in es₁ + (pending + 2) ≤ 504) (sk : Skips text (q + 1) j) where
       on_right : (n : ℕ) (p : Point) (fs : List Frame) → groups fs ≡ depth → Fresh (strength o) fs → wanting k n text i p (records_in es + pending) fs ≡ wanting k n text j p (records_in es₁ + (pending + 1)) (joining o g.guard ∷ fs)
-      on_right n p fs d fr = g.comes n p fs d fr ∙ sign_goes k n text p (records_in es₁ + pending) fs o g.guard s sk.over fr (omega arith) ∙ wanted k n text j p (joining o g.guard ∷ fs) (omega arith)
+      on_right n p fs d fr = g.comes n p fs d fr ∙ sign_goes k n text p (records_in es₁ + pending) fs o g.guard s sk fr (omega arith) ∙ wanted k n text j p (joining o g.guard ∷ fs) (omega arith)
 
       pub chain_none : {r : ℕ} → GuardNone (suc (strength o)) k depth (pending + 1) j text es₁ r → GuardNone (strength o) k depth pending i text es r
       unfolding groups
@@ -46,7 +46,7 @@ module _ (o : Operator) {k depth pending i : ℕ} {text es : List ℕ} where
           let more = one_record es₂ (expression_record (op_of o) left right) put refl in
           record {
             guard = joined o g.guard h.guard;
-            past = omega (arith, g.past, sk.over.forward, h.past);
+            past = omega (arith, g.past, sk.forward, h.past);
             over = h.over;
             count = omega (arith, g.count, h.count, more);
             few = omega (arith, h.few, more);

@@ -19,7 +19,7 @@ use Rattle.phrases.proofs.OperandLaws.{letter_goes, constant_goes, wanting_stops
 use Rattle.phrases.proofs.FrameLaws.{not_goes, not_stops, negated_up, open_goes, open_stops, close_goes, close_stops}
 
 over_4 : {text : List ℕ} {i q : ℕ} → Skips text i q → Over 4 text q
-over_4 s = record { inside = s.over.inside; no_gap = s.ends; no_sign = λ h o l e. absurd (omega (arith, strength_to o)) }
+over_4 s = record { inside = s.inside; no_gap = s.ends; no_sign = λ h o l e. absurd (omega (arith, strength_to o)) }
 
 -- the same count in other words
 module _ (k n : ℕ) (text : List ℕ) (i : ℕ) (p : Point) (fs : List Frame) {a b : ℕ} (e : a ≡ b) where
@@ -42,12 +42,12 @@ module _ {k depth pending i : ℕ} {text es : List ℕ} (asked : GuardAsked pend
       let more = one_record es r put eight in
       record {
         guard = g;
-        past = omega (arith, s.over.forward);
+        past = omega (arith, s.forward);
         over = over_4 s;
         count = omega (arith, one, more);
         few = omega (arith, asked.one_more, more);
         put = put ∙ ap (λ l. es ++ l) (sym is);
-        comes = λ n p fs d f. goes n p fs ∙ run_gaps k n text (in_phase p (suc (records_in es + pending)) (guarded fs g)) s.over ∙ had k n text q p fs (omega (arith, more)) g;
+        comes = λ n p fs d f. goes n p fs ∙ run_gaps k n text (in_phase p (suc (records_in es + pending)) (guarded fs g)) s ∙ had k n text q p fs (omega (arith, more)) g;
       }
 
   pub plain_to : (o : Operand) {es' : List ℕ} {q : ℕ} → k ≤ 12 → OperandHere k text i o → es' ≡ es ++ operand_record o → Skips text (i + 1) q → GuardTo 4 4 k depth pending i text es es' q
@@ -68,13 +68,13 @@ module _ {k depth pending i : ℕ} {text es : List ℕ} (asked : GuardAsked pend
       let more = one_record es₁ (expression_record 3 inner 0) put refl in
       record {
         guard = complement g.guard;
-        past = omega (arith, sk.over.forward, g.past);
+        past = omega (arith, sk.forward, g.past);
         over = g.over;
         count = omega (arith, g.count, more);
         few = omega (arith, g.few, more);
         put = put ∙ ap (λ l. l ++ expression_record 3 inner 0) g.put ∙ append_assoc es (guard_records (records_in es) g.guard) (expression_record 3 inner 0) ∙ ap (λ a. es ++ (guard_records (records_in es) g.guard ++ expression_record 3 a 0)) same;
         comes = λ n p fs d fr.
-            not_goes k n text p (records_in es + pending) fs s sk.over (omega arith)
+            not_goes k n text p (records_in es + pending) fs s sk (omega arith)
             ∙ wanted k n text j p (negating ∷ fs) (omega arith)
             ∙ g.comes n p (negating ∷ fs) d (fresh_4 (negating ∷ fs))
             ∙ negated_up k n text p (records_in es₁ + (pending + 1)) fs g.guard g.over.no_gap
@@ -84,7 +84,7 @@ module _ {k depth pending i : ℕ} {text es : List ℕ} (asked : GuardAsked pend
   pub negated_none : {j q : ℕ} → Stands text i 33 → records_in es + (pending + 2) ≤ 504 → Skips text (i + 1) j → GuardNone 4 k depth (pending + 1) j text es q → GuardNone 4 k depth pending i text es q
   unfolding groups
   negated_none {j = j} s room sk g =
-      record { comes = λ n p fs d fr. not_goes k n text p (records_in es + pending) fs s sk.over (omega arith) ∙ wanted k n text j p (negating ∷ fs) (omega arith) ∙ g.comes n p (negating ∷ fs) d (fresh_4 (negating ∷ fs)) }
+      record { comes = λ n p fs d fr. not_goes k n text p (records_in es + pending) fs s sk (omega arith) ∙ wanted k n text j p (negating ∷ fs) (omega arith) ∙ g.comes n p (negating ∷ fs) d (fresh_4 (negating ∷ fs)) }
 
   pub negated_full : Stands text i 33 → 504 < records_in es + (pending + 2) → GuardNone 4 k depth pending i text es i
   negated_full s full = record { comes = λ n p fs d fr. not_stops k n text p (records_in es + pending) fs s (omega arith) }
@@ -95,27 +95,27 @@ module _ {k depth pending i : ℕ} {text es : List ℕ} (asked : GuardAsked pend
   grouped_to {j = j} s deep sk g c sk' =
       record {
         guard = bracketed g.guard;
-        past = omega (arith, sk.over.forward, g.past, sk'.over.forward);
+        past = omega (arith, sk.forward, g.past, sk'.forward);
         over = over_4 sk';
         count = g.count;
         few = g.few;
         put = g.put;
         comes = λ n p fs d fr.
-            open_goes k n text p (records_in es + pending) fs s sk.over (omega arith)
+            open_goes k n text p (records_in es + pending) fs s sk (omega arith)
             ∙ g.comes n p (grouping ∷ fs) (omega arith) (fresh_grouping 1 fs)
-            ∙ close_goes k n text p _ fs g.guard c sk'.over;
+            ∙ close_goes k n text p _ fs g.guard c sk';
       }
 
   pub grouped_none : {j q : ℕ} → Stands text i 40 → depth < 32 → Skips text (i + 1) j → GuardNone 1 k (depth + 1) pending j text es q → GuardNone 4 k depth pending i text es q
   unfolding groups
-  grouped_none s deep sk g = record { comes = λ n p fs d fr. open_goes k n text p (records_in es + pending) fs s sk.over (omega arith) ∙ g.comes n p (grouping ∷ fs) (omega arith) (fresh_grouping 1 fs) }
+  grouped_none s deep sk g = record { comes = λ n p fs d fr. open_goes k n text p (records_in es + pending) fs s sk (omega arith) ∙ g.comes n p (grouping ∷ fs) (omega arith) (fresh_grouping 1 fs) }
 
   pub grouped_open : {es' : List ℕ} {j q : ℕ} → Stands text i 40 → depth < 32 → Skips text (i + 1) j → GuardTo 1 1 k (depth + 1) pending j text es es' q → ¬ Stands text q 41 → GuardNone 4 k depth pending i text es q
   unfolding groups
   grouped_open s deep sk g c =
       record {
         comes = λ n p fs d fr.
-            open_goes k n text p (records_in es + pending) fs s sk.over (omega arith) ∙ g.comes n p (grouping ∷ fs) (omega arith) (fresh_grouping 1 fs) ∙ close_stops k n text p _ fs g.guard g.over c;
+            open_goes k n text p (records_in es + pending) fs s sk (omega arith) ∙ g.comes n p (grouping ∷ fs) (omega arith) (fresh_grouping 1 fs) ∙ close_stops k n text p _ fs g.guard g.over c;
       }
 
   pub grouped_deep : Stands text i 40 → 32 ≤ depth → GuardNone 4 k depth pending i text es i
