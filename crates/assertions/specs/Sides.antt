@@ -1,8 +1,8 @@
 -- The number of a list in a clause's record.
 -- Assumes nothing.
 use Rattle.std.specs.Prelude.{ℕ}
-use Rattle.assertions.specs.declared.lists.Side.{Side}
-use Rattle.assertions.specs.declared.lists.Side.TheVariants.{Given, Expect}
+use Rattle.assertions.specs.declared.parts.Side.{Side}
+use Rattle.assertions.specs.declared.parts.Side.TheVariants.{Given, Expect}
 
 -- stimulus is 0, expectation 1
 abbrev pub side_of : Side → ℕ
