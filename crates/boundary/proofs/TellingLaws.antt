@@ -1,85 +1,52 @@
--- The laws of telling: with no room nothing changes, and otherwise the ten numbers stand in the first forty bytes.
+-- The laws of telling: ten numbers, a word's first, and the four low bytes of each.
 -- Assumes nothing.
-use Rattle.std.specs.Prelude.{Result}
-use Rattle.stored.specs.declared.Refusal.{Refusal}
-use Rattle.stored.specs.declared.Size.{Size}
-use mathlib.Core.Path.{◌≡◌, refl, sym, ◌∙◌, ap}
-use mathlib.Core.Bool.{Bool, true, false, not}
-use mathlib.Core.List.{List, ◌++◌}
-use Prim.Native.Nat.{ℕ, ◌/◌, ◌%◌, ◌≤◌}
-use borrow.Author.Tests.{not-true, not-false, leb-true}
-use lib.Dec.{leb}
-use lib.ListN.{length, get_or, drop}
+use Rattle.std.proofs.Common.{◌≡◌, ℕ, zero, suc, ◌-◌, ◌<◌, ◌≤◌, List, ◌∷◌, ◌++◌, length, get_or, drop, refl, ap, ◌∙◌, arith, length-append, replicate}
+use Rattle.std.specs.Int.{to_le_bytes, w64}
+use Rattle.std.proofs.lemmas.List.{drop-replicate, get_or-replicate, get_or_past, length-replicate}
 use Rattle.scans.specs.Lists.{list_of}
-use Rattle.meaning.specs.Stated.{Stated}
+use Rattle.scans.proofs.Lists.{list_of_is}
+use Rattle.std.proofs.lemmas.Grind.{common_steps}
+use Rattle.std.specs.Prelude.{true, leb}
+use borrow.Author.Tests.{le-leb}
+use Rattle.meaning.specs.Stated.{Word, Stated, state}
 use Rattle.stored.specs.Bytes.{digit}
-use Rattle.stored.specs.Layout.{Records}
-use Rattle.stored.specs.Reading.{stated_read}
-use Rattle.stored.specs.Packing.{stated_packed}
-use Rattle.stored.specs.Operations.{Unpacks, Packs}
-use Rattle.verdicts.specs.Running.{stated_row, GivesRow}
-use Rattle.boundary.specs.Answer.{ten_numbers, bytes_of}
-use Rattle.boundary.specs.Told.{if_room, Told, UnpackTold, PackTold, RowTold}
-use Rattle.boundary.specs.Steps.{NumbersTold}
-use Rattle.scans.proofs.Lists.{Filled, filled_all}
+use Rattle.boundary.specs.Words.{word_number}
+use Rattle.boundary.specs.Answer.{ten_numbers, answer_bytes}
+use Rattle.boundary.specs.Told.{if_room, Told}
 
--- the byte that stands at place i of ten numbers
-abbrev pub byte_of : List ℕ → ℕ → ℕ
-byte_of numbers i = digit (get_or numbers (i / 4) 0) (i % 4)
+-- a byte of a number, low byte first
+pub low_byte : (n o : ℕ) → o < 4 → get_or (to_le_bytes w64 n) o 0 ≡ digit n o
+low_byte n zero h = refl
+low_byte n (suc zero) h = refl
+low_byte n (suc (suc zero)) h = omega arith
+low_byte n (suc (suc (suc zero))) h = omega arith
+low_byte n (suc (suc (suc (suc o)))) h = absurd (omega arith)
 
--- the answer's room was asked for
-module _ {t : Bool} (answer : List ℕ) (e : t ≡ leb 40 (length answer)) where
-  pub room_says : not t ≡ false → 40 ≤ length answer
-  room_says f = leb-true 40 (length answer) (sym e ∙ not-false t f)
+-- zeros after a list are what it reads as past its end
+abbrev pub zeros : ℕ → List ℕ
+zeros n = replicate n 0
 
-  -- there is none: all stays as it was
-  module _ (f : not t ≡ true) where
-    pub stays : {A : Type 0} (tried : A) {kept : A} → kept ≡ if_room answer tried kept
-    stays tried = let w : leb 40 (length answer) ≡ false = cc (not-true t f) in rw w
+padded_at : (ns : List ℕ) (m i : ℕ) → get_or (ns ++ zeros m) i 0 ≡ get_or ns i 0
+padded_at ns m i = grind (arith, common_steps, get_or-replicate {A = ℕ}, get_or_past {X = ℕ})
 
-    pub numbers_untold : (numbers : List ℕ) → NumbersTold numbers answer answer 0
-    numbers_untold numbers = record { result_is = stays _; answer_is = stays _ }
+pub padded : (w : Word) (ns : List ℕ) {n : ℕ} → n ≡ length ns → n ≤ 9 → word_number w ∷ (ns ++ drop n (zeros 9)) ≡ ten_numbers (state w ns)
+unfolding ten_numbers
+padded w ns {n} e h =
+    let all = word_number w ∷ ns in
+    let f = λ (i : ℕ). get_or all i 0 in
+    let s = all ++ zeros (9 - n) in
+    let long : length s ≡ 10 = omega (arith, length-append ns (zeros (9 - n)), length-replicate {A = ℕ}) in
+    rw drop-replicate (list_of_is f s (λ i l. padded_at all (9 - n) i) ∙ ap (list_of f) long)
 
-    pub untold : (a : Stated) → Told a answer answer 0
-    untold a = record { result_is = stays _; answer_is = stays _ }
+-- an operation is tried where its answer has room, and what it answered is told
+module _ (answer : List ℕ) (room : 40 ≤ length answer) where
+  pub room_there : leb 40 (length answer) ≡ true
+  room_there = le-leb 40 (length answer) room
 
-  -- there is some
-  module _ (f : not t ≡ false) where
-    pub comes : {A : Type 0} {tried : A} (kept : A) {new : A} → new ≡ tried → new ≡ if_room answer tried kept
-    comes kept p = let w : leb 40 (length answer) ≡ true = cc (not-false t f) in rw w p
+  pub comes : {A : Type 0} {tried : A} (kept : A) {new : A} → new ≡ tried → new ≡ if_room answer tried kept
+  comes kept is = rw room_there is
 
-    pub numbers_told : (numbers : List ℕ) {i : ℕ} {answer' : List ℕ} → Filled (byte_of numbers) answer answer' i → i ≤ 40 → 40 ≤ i → NumbersTold numbers answer answer' (get_or numbers 0 0)
-    unfolding bytes_of
-    numbers_told numbers p l h = record { result_is = comes 0 refl; answer_is = comes answer (filled_all p l h) }
+  pub told : {a b : Stated} {forty : List ℕ} {r : ℕ} → b ≡ a → r ≡ word_number b.word → forty ≡ answer_bytes b → Told a answer (forty ++ drop 40 answer) r
+  told e n p = record { result_is = comes 0 (n ∙ ap (λ s. word_number s.word) e); answer_is = comes answer (ap (λ l. l ++ drop 40 answer) (p ∙ ap answer_bytes e)) }
 
--- an answer's numbers told are the answer told
-pub told : {a b : Stated} {numbers answer answer' : List ℕ} {r : ℕ} → b ≡ a → numbers ≡ ten_numbers b → NumbersTold numbers answer answer' r → Told a answer answer' r
-unfolding ten_numbers list_of
-told {a} {b} {numbers} {answer} e n p =
-    let m : numbers ≡ ten_numbers a = n ∙ ap ten_numbers e in
-    record {
-      result_is = p.result_is ∙ ap (λ l. if_room answer (get_or l 0 0) 0) m;
-      answer_is = p.answer_is ∙ ap (λ l. if_room answer (bytes_of l ++ drop 40 answer) answer) m;
-    }
-
--- unpack, pack and row: the lent lists too
-module _ {t : Bool} (answer : List ℕ) (e : t ≡ leb 40 (length answer)) where
-  pub unpack_untold : (job nodes expressions clauses : List ℕ) → not t ≡ true → UnpackTold job nodes expressions clauses answer nodes expressions clauses answer 0
-  unpack_untold job nodes expressions clauses f = record { told = untold answer e f _; nodes_are = stays answer e f _; expressions_are = stays answer e f _; clauses_are = stays answer e f _ }
-
-  pub unpack_told : {job nodes expressions clauses nodes' expressions' clauses' numbers answer' : List ℕ} {a : Result Size Refusal} {r : ℕ} → not t ≡ false
-      → Unpacks job nodes expressions clauses nodes' expressions' clauses' a → numbers ≡ ten_numbers (stated_read a) → NumbersTold numbers answer answer' r
-      → UnpackTold job nodes expressions clauses answer nodes' expressions' clauses' answer' r
-  unpack_told f u n p = record { told = told u.answer n p; nodes_are = comes answer e f _ u.nodes_are; expressions_are = comes answer e f _ u.expressions_are; clauses_are = comes answer e f _ u.clauses_are }
-
-  pub pack_untold : (r : Records) (out : List ℕ) → not t ≡ true → PackTold r out answer out answer 0
-  pack_untold r out f = record { told = untold answer e f _; out_is = stays answer e f _ }
-
-  pub pack_told : {s : Records} {out out' numbers answer' : List ℕ} {a : Result ℕ Refusal} {r : ℕ} → not t ≡ false → Packs s out out' a → numbers ≡ ten_numbers (stated_packed a) → NumbersTold numbers answer answer' r → PackTold s out answer out' answer' r
-  pack_told f u n p = record { told = told u.answer n p; out_is = comes answer e f _ u.out_is }
-
-  pub row_untold : (job : List ℕ) (x time : ℕ) (out : List ℕ) → not t ≡ true → RowTold job x time out answer out answer 0
-  row_untold job x time out f = record { told = untold answer e f _; out_is = stays answer e f _ }
-
-  pub row_told : {job : List ℕ} {x time : ℕ} {out out' numbers answer' : List ℕ} {a : Result ℕ Refusal} {r : ℕ} → not t ≡ false → GivesRow job x time out out' a → numbers ≡ ten_numbers (stated_row a) → NumbersTold numbers answer answer' r → RowTold job x time out answer out' answer' r
-  row_told f u n p = record { told = told u.answer n p; out_is = comes answer e f _ u.out_is }
+pub ruleset telling = (told, comes)

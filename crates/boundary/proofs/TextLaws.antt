@@ -1,14 +1,12 @@
--- A text told: the laws of telling it, that the promise determines all, and that nothing is lost in the forty bytes.
+-- A text told: the promise determines all, and nothing is lost in the forty bytes.
 -- Assumes nothing.
-use borrow.Author.Tests.{not-true, not-false}
 use mathlib.Core.Path.{◌≡◌, refl, sym, ◌∙◌, ap, subst}
-use mathlib.Core.Bool.{Bool, true, false, not, cond}
+use mathlib.Core.Bool.{Bool, true, false, cond}
 use mathlib.Core.List.{List}
 use native.Mathlib.Omega.{arith}
 use Prim.Native.Nat.{ℕ, ◌+◌, ◌*◌, ◌/◌, ◌%◌, ◌<◌}
 use lib.Dec.{leb, eqb}
 use lib.ListN.{length, get_or}
-use Rattle.scans.proofs.Bools.{both_ways}
 use Rattle.meaning.specs.Stated.{Word, DONE, REFUSED, PASSES, EMPTY, FAILS, HOLDS, VACANT, Stated}
 use Rattle.std.specs.Prelude.{Result, Ok, Err}
 use Rattle.assertions.specs.declared.Written.{Written}
@@ -17,22 +15,11 @@ use Rattle.assertions.specs.declared.TextRefusal.TheVariants.{Header, Text, Room
 use Rattle.assertions.specs.Answering.{Why, Answered}
 use Rattle.grammar.proofs.Counted.{expressions_count, clauses_count}
 use Rattle.assertions.proofs.Determined.{text_determined}
-use Rattle.boundary.specs.Answer.{ten_numbers, answer_bytes}
+use Rattle.boundary.specs.Answer.{answer_bytes}
 use Rattle.boundary.specs.Told.{Told}
-use Rattle.boundary.specs.Steps.{NumbersTold}
 use Rattle.boundary.specs.Texts.{stated_text, TextTried, TextTold}
 use Rattle.boundary.proofs.Fits.{Fits}
-use Rattle.boundary.proofs.TellingLaws.{told}
 use Rattle.boundary.proofs.Apart.{answer_same}
-
-module _ {t : Bool} (answer : List ℕ) (e : t ≡ leb 40 (length answer)) where
-  pub text_untold : (k n : ℕ) (text expressions clauses : List ℕ) → not t ≡ true → TextTold k n text expressions clauses answer expressions clauses answer 0
-  text_untold k n text expressions clauses f = record { tried = λ h. both_ways h (sym e ∙ not-true t f); untried = λ _. (refl, refl, refl, refl) }
-
-  pub text_told : {k n : ℕ} {text expressions clauses expressions' clauses' numbers answer' : List ℕ} {r : Result Written TextRefusal} {result : ℕ} → not t ≡ false
-      → Answered k n text expressions clauses expressions' clauses' r → numbers ≡ ten_numbers (stated_text r) → NumbersTold numbers answer answer' result
-      → TextTold k n text expressions clauses answer expressions' clauses' answer' result
-  text_told {r = r} f a ns p = record { tried = λ _. record { read = r; answered = a; told = told refl ns p }; untried = λ h. both_ways (sym e ∙ not-false t f) h }
 
 -- two outcomes that the promise allows are equal
 module _ (k n : ℕ) (text expressions clauses answer : List ℕ) {es cs a es' cs' a' : List ℕ} {r r' : ℕ} where
@@ -55,13 +42,11 @@ module _ (k n : ℕ) (text expressions clauses answer : List ℕ) {es cs a es' c
 -- each number fits its four bytes
 module _ (k n : ℕ) (text expressions clauses : List ℕ) (short : length text < 18446744073709551616) where
   why_fits : (r : TextRefusal) → Why k n text expressions clauses r → Fits 2 0 (stated_text (Err r))
-  unfolding stated_text
   why_fits Header x = record { counted = refl; small = omega arith }
   why_fits (Text byte) x = record { counted = refl; small = omega (arith, x.1.within) }
   why_fits Room x = record { counted = refl; small = omega arith }
 
   fits : (es cs : List ℕ) (r : Result Written TextRefusal) → Answered k n text expressions clauses es cs r → Fits 2 0 (stated_text r)
-  unfolding stated_text
   fits es cs (Ok w) x =
       record {
         counted = refl;
@@ -89,7 +74,7 @@ stated_back a = back a.word a.numbers
     back VACANT ns = Err Room
 
 back_stated : (r : Result Written TextRefusal) → stated_back (stated_text r) ≡ r
-unfolding stated_back stated_text refusal_back
+unfolding stated_back refusal_back
 back_stated (Ok w) = refl
 back_stated (Err Header) = refl
 back_stated (Err (Text byte)) = let whole : byte % 4294967296 + 4294967296 * (byte / 4294967296) ≡ byte = omega arith in ap (λ b. Err (Text b)) whole

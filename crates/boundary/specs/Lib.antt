@@ -2,4 +2,3 @@ pub mod Words
 pub mod Answer
 pub mod Told
 pub mod Texts
-pub mod Steps

@@ -9,7 +9,7 @@ use Rattle.assertions.specs.Answering.{Answered}
 use Rattle.boundary.specs.Told.{Told}
 
 -- both counts; or the number, and the byte in two parts of 32 bits
-unfoldable pub stated_text : Result Written TextRefusal → Stated
+abbrev pub stated_text : Result Written TextRefusal → Stated
 stated_text (Ok w) = record { word = DONE; numbers = w.expressions ∷ w.clauses ∷ [] }
 stated_text (Err r) = record { word = REFUSED; numbers = number_of r ∷ byte_of r % 4294967296 ∷ byte_of r / 4294967296 ∷ [] }
 

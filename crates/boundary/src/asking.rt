@@ -3,8 +3,7 @@ ghost use Rattle.stored.specs.Reading.{read_answer};
 ghost use Rattle.verdicts.specs.Running.{check_answer, one_case_answer};
 ghost use Rattle.boundary.specs.Told.{Told};
 
-use crate::answers::{of_case_checked, of_checked, of_read};
-use crate::telling::{has_room, tell};
+use crate::telling::tell;
 use jobs::sizes;
 use runs::{check, one_case};
 
@@ -12,20 +11,20 @@ use runs::{check, one_case};
 pub fn kelpanvil_sizes(job: &[u8], answer: &mut [u8]) -> usize
     ensures { Told (read_answer job.now) answer.old answer.new result }
 {
-    if !has_room(answer.len()) {
+    let Some(room) = answer.first_chunk_mut() else {
         return 0;
-    }
-    tell(of_read(sizes(job)), answer)
+    };
+    tell(sizes(job), room)
 }
 
 // PASSES; EMPTY with time, node; FAILS with time, node, wanted, found; or REFUSED with number, block, record.
 pub fn kelpanvil_one_case(job: &[u8], case: usize, answer: &mut [u8]) -> usize
     ensures { Told (one_case_answer job.now case) answer.old answer.new result }
 {
-    if !has_room(answer.len()) {
+    let Some(room) = answer.first_chunk_mut() else {
         return 0;
-    }
-    tell(of_case_checked(one_case(job, case)), answer)
+    };
+    tell(one_case(job, case), room)
 }
 
 // HOLDS, VACANT or FAILS with cases, passing, failing, empty, then VACANT with case, time, node and FAILS
@@ -33,8 +32,8 @@ pub fn kelpanvil_one_case(job: &[u8], case: usize, answer: &mut [u8]) -> usize
 pub fn kelpanvil_check(job: &[u8], answer: &mut [u8]) -> usize
     ensures { Told (check_answer job.now) answer.old answer.new result }
 {
-    if !has_room(answer.len()) {
+    let Some(room) = answer.first_chunk_mut() else {
         return 0;
-    }
-    tell(of_checked(check(job)), answer)
+    };
+    tell(check(job), room)
 }

@@ -1,5 +1,5 @@
 // The operations for C and Rust: numbers and byte slices only.
-#![tactic(auto)]
+#![tactic(auto, using(crate::proofs::TellingLaws::telling))]
 
 mod answers;
 pub mod asking;

@@ -2,8 +2,7 @@
 ghost use Rattle.stored.specs.Operations.{records_for};
 ghost use Rattle.boundary.specs.Told.{PackTold};
 
-use crate::answers::of_packed;
-use crate::telling::{has_room, tell};
+use crate::telling::tell;
 use jobs::pack;
 
 // DONE with the number of bytes written; or REFUSED with number, block, record.
@@ -17,8 +16,8 @@ pub fn kelpanvil_pack(
 ) -> usize
     ensures { PackTold (records_for k nodes.now expressions.now clauses.now) out.old answer.old out.new answer.new result }
 {
-    if !has_room(answer.len()) {
+    let Some(room) = answer.first_chunk_mut() else {
         return 0;
-    }
-    tell(of_packed(pack(k, nodes, expressions, clauses, out)), answer)
+    };
+    tell(pack(k, nodes, expressions, clauses, out), room)
 }

@@ -1,8 +1,7 @@
 // The row of a case at a time, in a lent output: a byte for each node, 0, 1, or 2 for X.
 ghost use Rattle.boundary.specs.Told.{RowTold};
 
-use crate::answers::of_row_asked;
-use crate::telling::{has_room, tell};
+use crate::telling::tell;
 use runs::row;
 
 // DONE with the number of bytes written; or REFUSED with number, block, record.
@@ -15,8 +14,8 @@ pub fn kelpanvil_row(
 ) -> usize
     ensures { RowTold job.now case time out.old answer.old out.new answer.new result }
 {
-    if !has_room(answer.len()) {
+    let Some(room) = answer.first_chunk_mut() else {
         return 0;
-    }
-    tell(of_row_asked(row(job, case, time, out)), answer)
+    };
+    tell(row(job, case, time, out), room)
 }

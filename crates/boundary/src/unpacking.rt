@@ -1,8 +1,7 @@
 // The records of a stored job, in three lent lists.
 ghost use Rattle.boundary.specs.Told.{UnpackTold};
 
-use crate::answers::of_read;
-use crate::telling::{has_room, tell};
+use crate::telling::tell;
 use jobs::unpack;
 
 // DONE with k, n, e, c; or REFUSED with number, block, record.
@@ -15,8 +14,8 @@ pub fn kelpanvil_unpack(
 ) -> usize
     ensures { UnpackTold job.now nodes.old expressions.old clauses.old answer.old nodes.new expressions.new clauses.new answer.new result }
 {
-    if !has_room(answer.len()) {
+    let Some(room) = answer.first_chunk_mut() else {
         return 0;
-    }
-    tell(of_read(unpack(job, nodes, expressions, clauses)), answer)
+    };
+    tell(unpack(job, nodes, expressions, clauses), room)
 }

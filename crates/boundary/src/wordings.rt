@@ -1,8 +1,7 @@
 // An assertion's text read into records, in two lent lists.
 ghost use Rattle.boundary.specs.Texts.{TextTold};
 
-use crate::answers::of_text;
-use crate::telling::{has_room, tell};
+use crate::telling::tell;
 use assertions::read_text;
 
 // DONE with the counts of expressions and clauses; or REFUSED with number and byte, its low and its high four bytes.
@@ -16,8 +15,8 @@ pub fn kelpanvil_text(
 ) -> usize
     ensures { TextTold k n text.now expressions.old clauses.old answer.old expressions.new clauses.new answer.new result }
 {
-    if !has_room(answer.len()) {
+    let Some(room) = answer.first_chunk_mut() else {
         return 0;
-    }
-    tell(of_text(read_text(k, n, text, expressions, clauses)), answer)
+    };
+    tell(read_text(k, n, text, expressions, clauses), room)
 }

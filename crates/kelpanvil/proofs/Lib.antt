@@ -1,4 +1,3 @@
-pub mod TellLaws
 pub mod Printed
 pub mod Enough
 pub mod Determined

@@ -1,19 +1,11 @@
 -- What the program makes of the bytes that it read.
 -- Assumes nothing.
-use Rattle.std.specs.Prelude.{Result}
+use Rattle.std.specs.Prelude.{◌≡◌, List, ℕ, ◌≤◌, length, Result}
 use Rattle.meaning.specs.declared.JobAnswer.{JobAnswer}
 use Rattle.stored.specs.declared.Refusal.{Refusal}
-use Rattle.std.specs.Prelude.{◌≡◌, List, ℕ, ◌≤◌, length}
 use Rattle.verdicts.specs.Running.{check_answer, stated_checked}
 use Rattle.lines.specs.Lines.{checked_line}
 use Rattle.lines.specs.Written.{Gives}
-use Rattle.kelpanvil.specs.declared.Input.{Input}
-use Rattle.kelpanvil.specs.declared.Input.TheVariants.{Bytes, Unreadable}
-
--- no more bytes than there is room for
-abbrev pub Within : Input → ℕ → Type 0
-Within (Bytes n) room = n ≤ room
-Within Unreadable room = Unit {0}
 
 -- the line of what check answers for the job, in lent bytes, of which 256 are enough
 pub record Tells (job out out' : List ℕ) (n : ℕ) : Type 0 where

@@ -1,14 +1,10 @@
--- `tell`: what check answered is told, a refusal first.
+-- `tell`: the line is that of what check answered.
 -- Assumes nothing.
-use mathlib.Core.Path.{◌∙◌}
-use Rattle.kelpanvil.proofs.TellLaws.{tells, no_verdict}
+use Rattle.std.specs.Prelude.{Ok, Err}
 use Rattle.kelpanvil.proofs.tell.Goals as goal
 
-pub returns-in_default-verdict : goal.returns-in_default-verdict
-returns-in_default-verdict c = no_verdict c.in_default-verdict.is
+pub returns-in-Ok : goal.returns-in-Ok
+returns-in-Ok c = record { answer = Ok c.in-Ok.answer; answers = c.in-Ok.ensures; given = c.verdict_line.ensures.0; fits = c.verdict_line.ensures.1 }
 
-pub returns-in_default : goal.returns-in_default
-returns-in_default c = tells c.check-verdict.ensures (c.in_default.is ∙ c.in-Refused.is) c.refusal_line.ensures.0 c.refusal_line.ensures.1
-
-pub returns : goal.returns
-returns c = tells c.check-verdict.ensures c.in-Answered.is c.verdict_line.ensures.0 c.verdict_line.ensures.1
+pub returns-in-Err : goal.returns-in-Err
+returns-in-Err c = record { answer = Err c.in-Err.refusal; answers = c.in-Err.ensures; given = c.refusal_line.ensures.0; fits = c.refusal_line.ensures.1 }

@@ -1,13 +1,8 @@
--- `tell`: the bytes before the loop's place are written, the others stay.
+-- `tell`: the bytes before the loop's place are written.
 -- Assumes nothing.
-use Prim.Native.Nat.{◌≤◌, ◌-◌}
-use lib.ListN.{length}
-use Rattle.scans.proofs.Lists.{Filled}
-use Rattle.boundary.proofs.TellingLaws.{byte_of}
+use Rattle.std.proofs.Common.{◌≡◌, ℕ, ◌<◌, ◌/◌, ◌%◌, get_or, length}
+use Rattle.stored.specs.Bytes.{digit}
 use Rattle.boundary.proofs.telling.tell.Given as goal
 
 abbrev pub invariant-loop-i : goal.invariant-loop-i
-invariant-loop-i l = (l.i ≤ 40) × (40 ≤ length l.initial.answer) × Filled (byte_of l.numbers) l.initial.answer l.answer l.i
-
-abbrev pub decreases-loop-i : goal.decreases-loop-i
-decreases-loop-i l = 40 - l.i
+invariant-loop-i g l = (length l.room ≡ 40) × ((k : ℕ) → k < l.i → get_or l.room k 0 ≡ digit (get_or l.numbers (k / 4) 0) (k % 4))
