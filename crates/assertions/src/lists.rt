@@ -6,7 +6,8 @@ ghost use Rattle.assertions.specs.Sides.{side_of};
 ghost use Rattle.assertions.specs.ListsRead.{ClauseAsked, ClauseAt, ListAt};
 
 use crate::clauses::said;
-use crate::parts::{Limits, Side, TextRecords, Told};
+use crate::parts::{Limits, TextRecords, Told};
+use meaning::Side;
 use phrases::guards::guard;
 use phrases::items::{Stopped, is_at, skip, spell};
 use phrases::records::two_bytes;

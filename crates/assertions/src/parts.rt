@@ -13,13 +13,6 @@ pub struct Limits {
     pub ghost few_nodes: { n ≤ 65536 },
 }
 
-// The two lists of a text, by their numbers in a clause's record.
-#[derive(Clone, Copy, Debug, PartialEq, Eq)]
-pub enum Side {
-    Given,
-    Expect,
-}
-
 // What was read so far: the clauses, and the expressions of their guards.
 #[derive(Drop)]
 pub struct TextRecords {

@@ -4,7 +4,8 @@ ghost use Rattle.phrases.specs.Places.{NoGap, Stands};
 ghost use Rattle.assertions.specs.TextsRead.{RestAt, TextAt};
 
 use crate::lists::list;
-use crate::parts::{Limits, Side, TextRecords};
+use crate::parts::{Limits, TextRecords};
+use meaning::Side;
 use phrases::items::{Stopped, skip, spell};
 
 // A word ends at `at`, and something stands there.
@@ -29,7 +30,7 @@ fn expected(
     if touches(end, from, text.len()) {
         return Err(Stopped { at: end });
     }
-    let over = list(text, from, limits, Side::Expect, records)?;
+    let over = list(text, from, limits, Side::Expectation, records)?;
     if over < text.len() {
         return Err(Stopped { at: over });
     }
@@ -46,6 +47,6 @@ pub fn whole_text(text: &[u8], limits: Limits, records: &mut TextRecords) -> Res
     if from == end {
         return Err(Stopped { at: end });
     }
-    let over = list(text, from, limits, Side::Given, records)?;
+    let over = list(text, from, limits, Side::Stimulus, records)?;
     expected(text, over, limits, records)
 }

@@ -3,12 +3,12 @@
 use Rattle.std.proofs.Common.{◌≡◌, sym, ◌∙◌, rules}
 use Rattle.decoded.specs.Meant.{job_in}
 use Rattle.cases.specs.Cells.{cell_in}
-use Rattle.cases.proofs.WalkLaws.{walk_within, walk_more, walk_end}
+use Rattle.decoded.proofs.WalkLaws.{walk_timely, walk_more, walk_end}
 use Rattle.cases.proofs.MissLaws.{lower, missed_more, missed_past, lowest_more, lowest_stays, lowest_is}
 use Rattle.cases.proofs.rows.Run.lowest_miss.Goals as goal
 
 pub misses-requires : goal.misses-requires
-misses-requires c = walk_within c.loop-clause.invariant.walk c.in-Some.ensures.steps
+misses-requires c = (walk_timely c.loop-clause.invariant.walk c.in-Some.ensures.steps).within
 
 pub loop-clause-preserved-then-misses : goal.loop-clause-preserved-then-misses
 loop-clause-preserved-then-misses c =
@@ -20,7 +20,7 @@ loop-clause-preserved-then-misses c =
     record {
       walk = walk_more old.walk step;
       lowest = rw new
-          (lowest_more _ _ k.node k.value (walk_within old.walk step).node
+          (lowest_more _ _ k.node k.value (walk_timely old.walk step).within.node
           (λ m v. missed_more (job_in s.plan.now) s.case (cell_in s.row) c.loop-clause.yielded k m v (sym c.misses.ensures ∙ c.if-misses.true)) c.loop-clause.lowest old.lowest);
     }
 

@@ -2,7 +2,7 @@
 -- Assumes nothing.
 use Rattle.decoded.specs.Meant.{job_in}
 use Rattle.cases.specs.Cells.{cell_in}
-use Rattle.cases.proofs.WalkLaws.{left, Walking}
+use Rattle.decoded.proofs.WalkLaws.{left, Walking}
 use Rattle.cases.proofs.MissLaws.{missed_in, Lowest}
 use Rattle.cases.proofs.rows.Run.lowest_miss.Given as goal
 

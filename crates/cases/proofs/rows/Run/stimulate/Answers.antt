@@ -7,21 +7,22 @@ use Rattle.meaning.specs.declared.Side.TheVariants.{Stimulus}
 use Rattle.decoded.specs.Meant.{job_in}
 use Rattle.cases.specs.Runs.{counts}
 use Rattle.cases.specs.Cells.{cell_in}
-use Rattle.cases.proofs.WalkLaws.{walk_within, walk_more, walk_end, joined_by, joined_more, joined_all}
+use Rattle.decoded.proofs.WalkLaws.{walk_timely, walk_more, walk_end}
+use Rattle.cases.proofs.WalkLaws.{joined_by, joined_more, joined_all}
 use Rattle.cases.proofs.rows.Run.stimulate.Goals as goal
 
 pub counts-requires : goal.counts-requires
-counts-requires c = (walk_within c.loop-clause.invariant.walk c.in-Some.ensures.steps).guard
+counts-requires c = (walk_timely c.loop-clause.invariant.walk c.in-Some.ensures.steps).within.guard
 
 pub bounds-row-from : goal.bounds-row-from
-bounds-row-from c = omega (arith, (walk_within c.loop-clause.invariant.walk c.in-Some.ensures.steps).node, c.args.self.now.plan.now.decoded.n_most, c.from.ensures)
+bounds-row-from c = omega (arith, (walk_timely c.loop-clause.invariant.walk c.in-Some.ensures.steps).within.node, c.args.self.now.plan.now.decoded.n_most, c.from.ensures)
 
 pub loop-clause-preserved-then-counts : goal.loop-clause-preserved-then-counts
 loop-clause-preserved-then-counts c =
     let s = c.args.self.now in
     let old = c.loop-clause.invariant in
     let step = c.in-Some.ensures.steps in
-    let here : c.from.result < length c.loop-clause.row = omega (arith, (walk_within old.walk step).node, s.plan.now.decoded.n_most) in
+    let here : c.from.result < length c.loop-clause.row = omega (arith, (walk_timely old.walk step).within.node, s.plan.now.decoded.n_most) in
     let on : counts (job_in s.plan.now) s.case Stimulus c.in-Some.clause ≡ true = sym c.counts.ensures ∙ c.if-counts.true in
     record {
       size = simp length-set old.size;
