@@ -1,22 +1,22 @@
 -- What reading a text answers: each refusal, and the records written.
 -- Assumes nothing.
-use mathlib.Core.Path.{◌≡◌, refl, sym, ◌∙◌, subst}
+use mathlib.Core.Path.{◌≡◌, refl, sym, ◌∙◌, ap, subst}
 use mathlib.Core.Bool.{Bool, true, false, ◌&&◌}
 use mathlib.Core.List.{List}
 use native.Mathlib.Omega.{arith}
 use Prim.Native.Nat.{ℕ, ◌*◌, ◌≤◌}
 use lib.Dec.{leb}
-use lib.ListN.{length, take}
+use lib.ListN.{length}
 use Rattle.scans.proofs.Bools.{says, both_ways}
 use Rattle.stored.specs.Broken.{Limits}
 use Rattle.stored.proofs.RuleTests.{limits_rule}
 use Rattle.texts.specs.Putting.{Puts}
-use Rattle.texts.proofs.PutLaws.{front_is, front_all}
+use Rattle.texts.proofs.PutLaws.{front_all}
 use Rattle.std.specs.Prelude.{Ok, Err}
-use Rattle.assertions.specs.declared.TextRefusal.TheVariants.{Header, Text, Room as ListTooShort}
+use Rattle.assertions.specs.declared.TextRefusal.TheVariants.{Text, Room as ListTooShort}
 use Rattle.grammar.specs.Grammar.{Reads, limits}
 use Rattle.assertions.specs.Answering.{Room, Answered}
-use Rattle.assertions.specs.TextsRead.{RestAsked, TextTo, TextNone}
+use Rattle.assertions.specs.TextsRead.{TextTo, TextNone}
 use Rattle.grammar.proofs.Readings.{read_is, stop_is}
 
 -- k and n are tested first
@@ -26,57 +26,48 @@ within k n {t} t-is h = sym t-is ∙ h
 kept : (k n : ℕ) → limits k n ≡ true → Limits (record { k = k; n = n; e = 0; c = 0 })
 kept k n l = (limits_rule (record { k = k; n = n; e = 0; c = 0 })).0 l
 
-pub refused_limits : (k n : ℕ) {text expressions clauses : List ℕ} {t : Bool} → t ≡ limits k n → t ≡ false → Answered k n text expressions clauses expressions clauses (Err Header)
-refused_limits k n {t = t} t-is h = record { says = record { why = sym t-is ∙ h; expressions_stay = refl; clauses_stay = refl } }
+pub limits_few : (k n : ℕ) {t : Bool} → t ≡ limits k n → t ≡ true → (k ≤ 12) × (n ≤ 65536)
+limits_few k n t-is h = let l = kept k n (within k n t-is h) in (l.k_most, omega (arith, l.n_most))
 
-pub text_asked : (k n : ℕ) {text es cs : List ℕ} {t : Bool} → t ≡ limits k n → t ≡ true → 4032 ≤ length es → 4032 ≤ length cs → RestAsked k n 0 0 0 text es cs
-text_asked k n t-is h a b =
-    let l = kept k n (within k n t-is h) in
-    record { inside = omega arith; few_variables = l.k_most; few_nodes = omega (arith, l.n_most); few_e = omega arith; few_c = omega arith; enough_e = a; enough_c = b }
-
-pub refused_text : (k n : ℕ) {text expressions clauses es es' cs cs' : List ℕ} {j : ℕ} {t : Bool} → t ≡ limits k n → t ≡ true → TextNone k n text es es' cs cs' j
-    → Answered k n text expressions clauses expressions clauses (Err (Text j))
+pub refused_text : (k n : ℕ) {text expressions clauses : List ℕ} {j : ℕ} {t : Bool} → t ≡ limits k n → t ≡ true → TextNone k n text j → Answered k n text expressions clauses expressions clauses (Err (Text j))
 refused_text k n {text} t-is h x =
     let w = within k n t-is h in
     let l = kept k n w in
     record { says = record { why = (w, stop_is k n (omega (arith, l.k_most)) l.n_least text x.comes); expressions_stay = refl; clauses_stay = refl } }
 
-module _ (k n : ℕ) {text es es' cs cs' : List ℕ} {f d : ℕ} {t : Bool} (t-is : t ≡ limits k n) (h : t ≡ true) (x : TextTo k n text es es' cs cs' f d) where
+module _ (k n : ℕ) {text es cs : List ℕ} {t : Bool} (t-is : t ≡ limits k n) (h : t ≡ true) (x : TextTo k n text es cs) where
   read_as : Reads k n x.t text
   read_as = let l = kept k n (within k n t-is h) in read_is k n (omega (arith, l.k_most)) l.n_least text x.comes
 
-  pub refused_room : {expressions clauses : List ℕ} {u : Bool} → u ≡ leb (8 * f) (length expressions) && leb (8 * d) (length clauses) → u ≡ false → Answered k n text expressions clauses expressions clauses (Err ListTooShort)
-  refused_room {expressions} {clauses} {u} u-is l =
-      record {
-        says = record {
-          why = (within k n t-is h, record { text = x.t; reads = read_as; short = λ room. no_room room });
-          expressions_stay = refl;
-          clauses_stay = refl;
-        };
-      }
-    where
-      no_room : ¬ Room x.t expressions clauses
-      no_room room =
-          let yes_room : leb (8 * f) (length expressions) && leb (8 * d) (length clauses) ≡ true = simp says (omega (arith, room.0, x.put_e.end_is), omega (arith, room.1, x.put_c.end_is)) in
-          both_ways yes_room (sym u-is ∙ l)
+  module _ {expressions clauses : List ℕ} {u : Bool} (u-is : u ≡ leb (length es) (length expressions) && leb (length cs) (length clauses)) where
+    pub refused_room : u ≡ false → Answered k n text expressions clauses expressions clauses (Err ListTooShort)
+    refused_room l =
+        record {
+          says = record {
+            why = (within k n t-is h, record { text = x.t; reads = read_as; short = λ room. no_room room });
+            expressions_stay = refl;
+            clauses_stay = refl;
+          };
+        }
+      where
+        no_room : ¬ Room x.t expressions clauses
+        no_room room =
+            let yes_room : leb (length es) (length expressions) && leb (length cs) (length clauses) ≡ true = simp says (omega (arith, room.0, ap length x.es_are), omega (arith, room.1, ap length x.cs_are)) in
+            both_ways yes_room (sym u-is ∙ l)
 
-  pub written : {expressions clauses : List ℕ} {u : Bool} {expressions' clauses' : List ℕ} {a b : ℕ} → u ≡ leb (8 * f) (length expressions) && leb (8 * d) (length clauses) → u ≡ true
-      → Puts (take (8 * f) es') 0 expressions expressions' a → Puts (take (8 * d) cs') 0 clauses clauses' b → Answered k n text expressions clauses expressions' clauses' (Ok (record { expressions = f; clauses = d }))
-  written {expressions} {clauses} {u} {expressions'} {clauses'} {a} {b} u-is l p q =
-      let r = simp says at (sym u-is ∙ l) in
-      record {
-        says = record {
-          in_limits = within k n t-is h;
-          text = x.t;
-          reads = read_as;
-          room = (omega (arith, r.0, x.put_e.end_is), omega (arith, r.1, x.put_c.end_is));
-          expressions_are = front_all (subst (λ s. Puts s 0 expressions expressions' a) (front_is x.put_e) p);
-          clauses_are = front_all (subst (λ s. Puts s 0 clauses clauses' b) (front_is x.put_c) q);
-          e_is = omega (arith, x.put_e.end_is);
-          c_is = omega (arith, x.put_c.end_is);
-        };
-      }
-
-  -- what the lists' room says of the pieces
-  pub room_says : {expressions clauses : ℕ} {u : Bool} → u ≡ leb (8 * f) expressions && leb (8 * d) clauses → u ≡ true → (8 * f ≤ expressions) × (8 * d ≤ clauses)
-  room_says {u = u} u-is l = simp says at (sym u-is ∙ l)
+    pub written : {expressions' clauses' : List ℕ} {a b e c : ℕ} → u ≡ true → Puts es 0 expressions expressions' a → Puts cs 0 clauses clauses' b → 8 * e ≡ length es → 8 * c ≡ length cs
+        → Answered k n text expressions clauses expressions' clauses' (Ok (record { expressions = e; clauses = c }))
+    written {expressions'} {clauses'} {a} {b} l p q e_is c_is =
+        let r = simp says at (sym u-is ∙ l) in
+        record {
+          says = record {
+            in_limits = within k n t-is h;
+            text = x.t;
+            reads = read_as;
+            room = (omega (arith, r.0, ap length x.es_are), omega (arith, r.1, ap length x.cs_are));
+            expressions_are = front_all (subst (λ s. Puts s 0 expressions expressions' a) x.es_are p);
+            clauses_are = front_all (subst (λ s. Puts s 0 clauses clauses' b) x.cs_are q);
+            e_is = omega (arith, e_is, ap length x.es_are);
+            c_is = omega (arith, c_is, ap length x.cs_are);
+          };
+        }

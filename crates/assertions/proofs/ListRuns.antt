@@ -1,19 +1,15 @@
 -- Clauses one after the other, and where the list is full or over.
 -- Assumes nothing.
-use borrow.Author.Tests.{lt-ltb, le-ltb, lt-leb, leb-false}
-use mathlib.Core.Path.{◌≡◌, refl, sym, ◌∙◌, ap, subst}
-use mathlib.Core.Bool.{Bool, true, false, ◌||◌}
+use borrow.Author.Tests.{lt-ltb, le-ltb, lt-leb}
+use mathlib.Core.Path.{◌≡◌, refl, sym, ◌∙◌, ap}
+use mathlib.Core.Bool.{false}
 use mathlib.Core.List.{List, [], ◌∷◌, ◌++◌, append_assoc, append-nil}
 use mathlib.Core.Option.{none}
 use native.Mathlib.Decide.{dec_lt}
 use native.Mathlib.Omega.{arith}
-use Prim.Native.Nat.{ℕ, ◌+◌, ◌*◌, ◌≤◌, ◌<◌}
-use lib.Dec.{leb}
+use Prim.Native.Nat.{ℕ, ◌+◌, ◌≤◌, ◌<◌}
 use lib.ListN.{length, length-append}
-use Rattle.scans.proofs.Bools.{both_ways}
 use Rattle.stored.specs.Bytes.{byte_at}
-use Rattle.texts.specs.Putting.{Puts}
-use Rattle.texts.proofs.PutLaws.{puts_then, ended_at, puts_none}
 use Rattle.grammar.specs.Items.{Keyword, GIVEN, EXPECT, WHEN, IS, AT, word, letters}
 use Rattle.grammar.specs.Guards.{size}
 use Rattle.grammar.specs.Grammar.{Clause, sizes}
@@ -21,11 +17,12 @@ use Rattle.grammar.specs.Records.{guard_records, clause_record, list_expressions
 use Rattle.grammar.specs.Points.{listing, Point, step, finished}
 use Rattle.grammar.specs.Bytewise.{ready, stops, reading}
 use Rattle.phrases.specs.Places.{Stands, Skips, NoGap}
-use Rattle.phrases.specs.GuardsRead.{in_phase}
+use Rattle.phrases.specs.GuardsRead.{in_phase, records_in}
 use Rattle.assertions.specs.ClausesRead.{clause_added}
-use Rattle.assertions.specs.ListsRead.{count_of, ClauseAsked, ClauseTo, ClauseNone, list_added, ListTo, ListNone}
+use Rattle.assertions.specs.ListsRead.{count_of, ClauseTo, ClauseNone, list_added, ListTo, ListNone}
 use Rattle.grammar.proofs.Steps.{length_added, none_added, more_added, sizes_snoc}
 use Rattle.phrases.proofs.Feeding.{run_gaps}
+use Rattle.phrases.proofs.LevelLaws.{one_record}
 use Rattle.phrases.proofs.Stopping.{nothing_goes}
 
 -- one clause more at the end of a list
@@ -43,8 +40,11 @@ clauses_more side e (y ∷ l) x =
     let z : e + size y.guard + sizes l ≡ e + (size y.guard + sizes l) = omega arith in
     rw (clauses_more side (e + size y.guard) l x, z)
 
-nothing_put : (at : ℕ) (d : List ℕ) → at ≤ length d → Puts [] at d d at
-nothing_put at d h = ended_at (omega arith) (puts_none [] at d (omega arith))
+expressions_put : (e : ℕ) (es : List ℕ) (l : List Clause) (x : Clause) {es₁ es₂ : List ℕ} → es₁ ≡ es ++ list_expressions e l → es₂ ≡ es₁ ++ guard_records (e + sizes l) x.guard → es₂ ≡ es ++ list_expressions e (l ++ x ∷ [])
+expressions_put e es l x p q = rw (expressions_more e l x, q, p) (append_assoc es (list_expressions e l) (guard_records (e + sizes l) x.guard))
+
+clauses_put : (side e : ℕ) (cs : List ℕ) (l : List Clause) (x : Clause) {cs₁ cs₂ : List ℕ} → cs₁ ≡ cs ++ list_clauses side e l → cs₂ ≡ cs₁ ++ clause_record side (e + sizes l) x → cs₂ ≡ cs ++ list_clauses side e (l ++ x ∷ [])
+clauses_put side e cs l x p q = rw (clauses_more side e l x, q, p) (append_assoc cs (list_clauses side e l) (clause_record side (e + sizes l) x))
 
 -- where neither a clause nor `expect` may begin
 pub listing_stops : (k n : ℕ) (text : List ℕ) (p : Point) (used : ℕ) {i : ℕ} → (length text ≤ i → finished (in_phase p used listing) ≡ none) → NoGap text i
@@ -60,85 +60,62 @@ listing_stops k n text p used {i} open-yet clean no-expect no_when = nothing_goe
     no_word IS s = refl
     no_word AT s = refl
 
-neither : (a b : Bool) → a || b ≡ false → (a ≡ false) × (b ≡ false)
-neither true b e = both_ways refl e
-neither false b e = (refl, e)
-
 -- no clause yet
-pub list_none : {k n e c i q : ℕ} {text es cs : List ℕ} (side : ℕ) → Skips text i q → e ≤ 504 → c ≤ 504 → 4032 ≤ length es → 4032 ≤ length cs → ListTo k n side e c i text es es cs cs q e c
+pub list_none : {k n i q : ℕ} {text es cs : List ℕ} (side : ℕ) → Skips text i q → ListTo k n side i text es es cs cs q
 unfolding sizes list_expressions list_clauses
-list_none {k} {n} {e} {c} {i} {q} {text} {es} {cs} side sk few_e few_c room_e room_c =
+list_none {k} {n} {i} {q} {text} {es} {cs} side sk =
     record {
       clauses = [];
-      inside = sk.over.inside;
+      inside = sk.inside;
       no_gap = sk.ends;
       count_e = omega arith;
       count_c = omega arith;
-      few_e = few_e;
-      few_c = few_c;
-      put_e = nothing_put (8 * e) es (omega arith);
-      put_c = nothing_put (8 * c) cs (omega arith);
-      comes = λ p same. run_gaps k n text (in_phase p e listing) sk.over ∙ ap (reading k n text q (ready false)) (sym (none_added p.second p.given p.expect e));
+      put_e = sym (append-nil es);
+      put_c = sym (append-nil cs);
+      comes = λ p same. run_gaps k n text (in_phase p (records_in es) listing) sk ∙ ap (reading k n text q (ready false)) (sym (none_added p.second p.given p.expect (records_in es)));
     }
 
-module _ {k n side e c i q f d : ℕ} {text es es₁ cs cs₁ : List ℕ} (l : ListTo k n side e c i text es es₁ cs cs₁ q f d) where
-  counted : (p : Point) → count_of p ≡ c → count_of (list_added p f l.clauses) ≡ d
+module _ {k n side i q : ℕ} {text es es₁ cs cs₁ : List ℕ} (l : ListTo k n side i text es es₁ cs cs₁ q) where
+  counted : (p : Point) → count_of p ≡ records_in cs → count_of (list_added p (records_in es₁) l.clauses) ≡ records_in cs₁
   counted p same = omega (arith, length_added p.second p.given p.expect l.clauses, l.count_c)
 
   -- one more
-  pub list_more : {es₂ cs₂ : List ℕ} {u v g : ℕ} → ClauseTo listing false k n side f d q text es₁ es₂ cs₁ cs₂ u g → Skips text u v → d < 504 → ListTo k n side e c i text es es₂ cs cs₂ v g (d + 1)
-  list_more {es₂} {cs₂} {u} {v} {g} x sk room =
+  pub list_more : {es₂ cs₂ : List ℕ} {u v : ℕ} → ClauseTo listing false k n side q text es₁ es₂ cs₁ cs₂ u → Skips text u v → ListTo k n side i text es es₂ cs cs₂ v
+  list_more {es₂} {cs₂} {u} {v} x sk =
       let here = l.clauses in
-      let e_is : f ≡ e + sizes here = l.count_e in
+      let e_is : records_in es₁ ≡ records_in es + sizes here = l.count_e in
       record {
         clauses = here ++ x.clause ∷ [];
-        inside = sk.over.inside;
+        inside = sk.inside;
         no_gap = sk.ends;
         count_e = omega (arith, x.count, l.count_e, sizes_snoc here x.clause);
-        count_c = omega (arith, l.count_c, length-append here (x.clause ∷ []));
-        few_e = x.few;
-        few_c = omega arith;
-        put_e = rw (expressions_more e here x.clause) (puts_then l.put_e (subst (λ a. Puts (guard_records a x.clause.guard) (8 * f) es₁ es₂ (8 * g)) e_is x.put_guard));
-        put_c = rw (clauses_more side e here x.clause) (ended_at (omega arith) (puts_then l.put_c (subst (λ a. Puts (clause_record side a x.clause) (8 * d) cs₁ cs₂ (8 * d + 8)) e_is x.put_clause)));
+        count_c = omega (arith, l.count_c, length-append here (x.clause ∷ []), one_record cs₁ _ x.put_clause refl);
+        put_e = expressions_put (records_in es) es here x.clause l.put_e (rw e_is at x.put_guard);
+        put_c = clauses_put side (records_in es) cs here x.clause l.put_c (rw e_is at x.put_clause);
         comes = λ p same.
-            l.comes p same ∙ x.comes (list_added p f here) (counted p same)
-            ∙ run_gaps k n text (clause_added (list_added p f here) g x.clause) sk.over ∙ ap (reading k n text v (ready false)) (more_added p.second p.given p.expect here (x.clause ∷ []) g);
+            l.comes p same ∙ x.comes (list_added p (records_in es₁) here) (counted p same)
+            ∙ run_gaps k n text (clause_added (list_added p (records_in es₁) here) (records_in es₂) x.clause) sk
+            ∙ ap (reading k n text v (ready false)) (more_added p.second p.given p.expect here (x.clause ∷ []) (records_in es₂));
       }
 
-  pub list_stops : {es₂ cs₂ : List ℕ} {j : ℕ} → ClauseNone listing false k n f d q text es₁ es₂ cs₁ cs₂ j → ListNone k n e c i text es es₂ cs cs₂ j
-  list_stops x =
-      record { size_e = x.size_e ∙ l.put_e.size; size_c = x.size_c ∙ l.put_c.size; comes = λ p same. l.comes p same ∙ x.comes (list_added p f l.clauses) (counted p same) }
+  pub list_stops : {j : ℕ} → ClauseNone listing false k n q text es₁ cs₁ j → ListNone k n i text es cs j
+  list_stops x = record { comes = λ p same. l.comes p same ∙ x.comes (list_added p (records_in es₁) l.clauses) (counted p same) }
 
   -- no room for one more
-  no_room : (p : Point) → count_of p ≡ d → leb 504 f || leb 504 d ≡ true → step k n (in_phase p f listing) (word WHEN) ≡ none
+  no_room : (p : Point) → count_of p ≡ records_in cs₁ → ¬ ((records_in es₁ < 504) × (records_in cs₁ < 504)) → step k n (in_phase p (records_in es₁) listing) (word WHEN) ≡ none
   unfolding step
-  no_room p same full = go (dec_lt f 504) (dec_lt (count_of p) 504)
+  no_room p same full = go (dec_lt (records_in es₁) 504) (dec_lt (count_of p) 504)
     where
-      go : Dec (f < 504) → Dec (count_of p < 504) → step k n (in_phase p f listing) (word WHEN) ≡ none
+      go : Dec (records_in es₁ < 504) → Dec (count_of p < 504) → step k n (in_phase p (records_in es₁) listing) (word WHEN) ≡ none
       go a (no b) = rw (le-ltb (count_of p) 504 (omega arith))
-      go (no a) (yes b) = rw (lt-ltb (count_of p) 504 b, lt-leb (f + 1) 504 (omega arith))
-      go (yes a) (yes b) = both_ways full (rw (lt-leb 504 f a, lt-leb 504 d (omega arith)))
+      go (no a) (yes b) = rw (lt-ltb (count_of p) 504 b, lt-leb (records_in es₁ + 1) 504 (omega arith))
+      go (yes a) (yes b) = absurd (full (a, omega arith))
 
-  pub list_full : {t : Bool} → Stands text q 119 → t ≡ leb 504 f || leb 504 d → t ≡ true → ListNone k n e c i text es es₁ cs cs₁ q
-  list_full s t-is h =
+  pub list_full : Stands text q 119 → ¬ ((records_in es₁ < 504) × (records_in cs₁ < 504)) → ListNone k n i text es cs q
+  list_full s full =
       record {
-        size_e = l.put_e.size;
-        size_c = l.put_c.size;
         comes = λ p same.
             l.comes p same
-            ∙ listing_stops k n text (list_added p f l.clauses) f (λ o. absurd (omega (arith, s.inside))) l.no_gap (λ t. absurd (omega (arith, s.is, t.is)))
-            (λ _. no_room (list_added p f l.clauses) (counted p same) (sym t-is ∙ h));
-      }
-
-  pub list_asked : {t : Bool} → k ≤ 12 → n ≤ 65536 → 4032 ≤ length es → 4032 ≤ length cs → t ≡ leb 504 f || leb 504 d → t ≡ false → ClauseAsked k n f d q text es₁ cs₁
-  list_asked few-k few-n room_e room_c t-is h =
-      let (a, b) = neither (leb 504 f) (leb 504 d) (sym t-is ∙ h) in
-      record {
-        inside = l.inside;
-        few_variables = few-k;
-        few_nodes = few-n;
-        room_e = leb-false 504 f a;
-        room_c = leb-false 504 d b;
-        enough_e = omega (arith, l.put_e.size);
-        enough_c = omega (arith, l.put_c.size);
+            ∙ listing_stops k n text (list_added p (records_in es₁) l.clauses) (records_in es₁) (λ o. absurd (omega (arith, s.inside))) l.no_gap (λ t. absurd (omega (arith, s.is, t.is)))
+            (λ _. no_room (list_added p (records_in es₁) l.clauses) (counted p same) full);
       }

@@ -16,7 +16,7 @@ use Rattle.scans.proofs.Bools.{says, both_ways}
 use Rattle.stored.specs.Bytes.{byte_at}
 use Rattle.std.specs.Prelude.{Result, MatchResult, Ok, Err}
 use Rattle.phrases.specs.declared.items.Stopped.{Stopped}
-use Rattle.assertions.specs.declared.clauses.Counted.{Counted}
+use Rattle.assertions.specs.declared.parts.Counted.{Counted}
 use Rattle.grammar.specs.Items.{Keyword, Mark, number, word, letters}
 use Rattle.grammar.specs.Guards.{Guard}
 use Rattle.grammar.specs.Points.{Slot, saying, below, telling, Point, word_number, ended, step, finished}
@@ -89,17 +89,7 @@ pub record Counting (text : List ℕ) (limit i q v : ℕ) : Type 0 where
   pub small : i < q → v < limit
   pub comes : i < q → (k n : ℕ) (p : Point) (used : ℕ) (g : Guard) (s : Slot) (ss : List Slot) (ns : List ℕ) → awaiting k n text i (ready false) p used g (below limit ∷ s ∷ ss) ns ≡ awaiting k n text q (digits v) p used g (below limit ∷ s ∷ ss) ns
 
-pub counting_none : (text : List ℕ) (limit i : ℕ) → i ≤ length text → Counting text limit i i 0
-counting_none text limit i h = record { forward = omega arith; inside = h; none_yet = λ _. refl; small = λ l. absurd (omega arith); comes = λ l. absurd (omega arith) }
-
 module _ {text : List ℕ} {limit i q v : ℕ} (c : Counting text limit i q v) where
-  pub counting_most : limit ≤ 65536 → v < 65536
-  counting_most h = go (dec_lt i q)
-    where
-      go : Dec (i < q) → v < 65536
-      go (yes l) = omega (arith, c.small l)
-      go (no l) = omega (arith, c.none_yet (omega (arith, c.forward)))
-
   -- one digit more, of value x
   module _ {x : ℕ} (d : Digit text q) (same : x ≡ byte_at text q - 48) (some : (i < q) × ¬ (v ≡ 0) ⊎ (q ≤ i)) where
     counted : (k n : ℕ) (p : Point) (used : ℕ) (g : Guard) (s : Slot) (ss : List Slot) (ns : List ℕ) → awaiting k n text i (ready false) p used g (below limit ∷ s ∷ ss) ns ≡ made k n text p used g limit s ss ns q (10 * v + x)
@@ -168,7 +158,7 @@ module _ (text letters' : List ℕ) (limit i : ℕ) where
 
   module _ {r : ℕ} (sk : Skips text i r) (some-gap : ¬ (r ≡ i)) where
     on_word : (w : Keyword) (k n : ℕ) (p : Point) (used : ℕ) (g : Guard) (s : Slot) (ss : List Slot) (ns : List ℕ) → awaiting k n text i (ready true) p used g (saying w ∷ below limit ∷ s ∷ ss) ns ≡ awaiting k n text r (ready false) p used g (saying w ∷ below limit ∷ s ∷ ss) ns
-    on_word w k n p used g s ss ns = run_some k n text true (in_phase p used (telling g (saying w ∷ below limit ∷ s ∷ ss) ns)) sk.over (omega (arith, sk.over.forward))
+    on_word w k n p used g s ss ns = run_some k n text true (in_phase p used (telling g (saying w ∷ below limit ∷ s ∷ ss) ns)) sk (omega (arith, sk.forward))
 
     pub labelled_broken : {j : ℕ} → Broken text r letters' j → LabelledAt text letters' limit i (Err (record { at = j }))
     labelled_broken {j} b =
@@ -183,7 +173,7 @@ module _ (text letters' : List ℕ) (limit i : ℕ) where
 
       module _ {t : ℕ} (sk' : Skips text q t) (gap-there : ¬ (t ≡ q)) where
         on_digits : (w : Keyword) → letters w ≡ letters' → (k n : ℕ) (p : Point) (used : ℕ) (g : Guard) (s : Slot) (ss : List Slot) (ns : List ℕ) → awaiting k n text i (ready true) p used g (saying w ∷ below limit ∷ s ∷ ss) ns ≡ awaiting k n text t (ready false) p used g (below limit ∷ s ∷ ss) ns
-        on_digits w same k n p used g s ss ns = on_number w same k n p used g s ss ns ∙ run_some k n text true (in_phase p used (telling g (below limit ∷ s ∷ ss) ns)) sk'.over (omega (arith, sk'.over.forward))
+        on_digits w same k n p used g s ss ns = on_number w same k n p used g s ss ns ∙ run_some k n text true (in_phase p used (telling g (below limit ∷ s ∷ ss) ns)) sk' (omega (arith, sk'.forward))
 
         pub labelled_number : {c : Result Counted Stopped} → CountedAt text false (below limit ∷ []) limit t c → LabelledAt text letters' limit i c
         labelled_number {c} x = record { counted = λ w same. record { says = go c w same x.says } }
@@ -191,5 +181,5 @@ module _ (text letters' : List ℕ) (limit i : ℕ) where
             go : (c : Result Counted Stopped) (w : Keyword) → letters w ≡ letters' → MatchResult c (λ y. (y.value < limit) × Fills text false (below limit ∷ []) t y.at y.value) (λ y. Fails text false (below limit ∷ []) t y.at)
                 → MatchResult c (λ y. (y.value < limit) × Fills text true (saying w ∷ below limit ∷ []) i y.at y.value) (λ y. Fails text true (saying w ∷ below limit ∷ []) i y.at)
             go (Ok u) w same y =
-                (y.0, record { past = omega (arith, sk.over.forward, sp.q_is, sk'.over.forward, y.1.past); inside = y.1.inside; comes = λ k n p used g s ss ns. on_digits w same k n p used g s ss ns ∙ y.1.comes k n p used g s ss ns })
+                (y.0, record { past = omega (arith, sk.forward, sp.q_is, sk'.forward, y.1.past); inside = y.1.inside; comes = λ k n p used g s ss ns. on_digits w same k n p used g s ss ns ∙ y.1.comes k n p used g s ss ns })
             go (Err j) w same y = record { comes = λ k n p used g s ss ns. on_digits w same k n p used g s ss ns ∙ y.comes k n p used g s ss ns }

@@ -20,7 +20,7 @@ use Rattle.phrases.proofs.Stopping.{touching_stops, nothing_goes}
 -- gaps and then a mark; touching does not matter to a mark
 module _ (k n : ℕ) (text : List ℕ) (p : Point) {i q : ℕ} (sk : Skips text i q) where
   gaps_mark : (touching : Bool) (m : Mark) {r : Point} → Stands text q (mark_byte m) → step k n p (mark m) ≡ some r → reading k n text i (ready touching) p ≡ reading k n text (q + 1) (ready false) r
-  gaps_mark touching m s e = run_past k n text touching p sk.over (λ _. mark_goes k n text touching p m s e) (mark_goes k n text false p m s e)
+  gaps_mark touching m s e = run_past k n text touching p sk (λ _. mark_goes k n text touching p m s e) (mark_goes k n text false p m s e)
 
 module _ (k n : ℕ) (text : List ℕ) (p : Point) (used : ℕ) (g : Guard) (ns : List ℕ) {i q : ℕ} (sk : Skips text i q) where
   -- where a semicolon is wanted
@@ -32,17 +32,17 @@ module _ (k n : ℕ) (text : List ℕ) (p : Point) (used : ℕ) (g : Guard) (ns 
   unfolding step finished
   unended f =
       let here = in_phase p used (telling g (ending ∷ []) ns) in
-      run_past k n text true here sk.over (λ _. touching_stops k n text here q (λ _. refl) sk.ends (other_mark f))
+      run_past k n text true here sk (λ _. touching_stops k n text here q (λ _. refl) sk.ends (other_mark f))
       (nothing_goes k n text here q (λ _. refl) sk.ends (other_mark f) (λ d h s. refl) (λ v _. refl) (λ w s. refl))
 
 -- gaps, a node, a value, a time, gaps and the semicolon
 module _ {text : List ℕ} {n i a : ℕ} (sk : Skips text i a) where
   pub no_node : {j : ℕ} → Fails text false (below n ∷ []) a j → ToldNone text false (clause_slots n) [] i j
-  no_node f = record { comes = λ k m p used g. run_gaps k m text (in_phase p used (telling g (clause_slots n) [])) sk.over ∙ f.comes k m p used g (saying IS) (below 2 ∷ saying AT ∷ below 256 ∷ ending ∷ []) [] }
+  no_node f = record { comes = λ k m p used g. run_gaps k m text (in_phase p used (telling g (clause_slots n) [])) sk ∙ f.comes k m p used g (saying IS) (below 2 ∷ saying AT ∷ below 256 ∷ ending ∷ []) [] }
 
   module _ {b node : ℕ} (f : Fills text false (below n ∷ []) a b node) where
     on_value : (k m : ℕ) (p : Point) (used : ℕ) (g : Guard) → awaiting k m text i (ready false) p used g (clause_slots n) [] ≡ awaiting k m text b (ready true) p used g (saying IS ∷ below 2 ∷ saying AT ∷ below 256 ∷ ending ∷ []) (node ∷ [])
-    on_value k m p used g = run_gaps k m text (in_phase p used (telling g (clause_slots n) [])) sk.over ∙ f.comes k m p used g (saying IS) (below 2 ∷ saying AT ∷ below 256 ∷ ending ∷ []) []
+    on_value k m p used g = run_gaps k m text (in_phase p used (telling g (clause_slots n) [])) sk ∙ f.comes k m p used g (saying IS) (below 2 ∷ saying AT ∷ below 256 ∷ ending ∷ []) []
 
     pub no_value : {j : ℕ} → Fails text true (saying IS ∷ below 2 ∷ []) b j → ToldNone text false (clause_slots n) [] i j
     no_value x = record { comes = λ k m p used g. on_value k m p used g ∙ x.comes k m p used g (saying AT) (below 256 ∷ ending ∷ []) (node ∷ []) }
@@ -65,9 +65,7 @@ module _ {text : List ℕ} {n i a : ℕ} (sk : Skips text i a) where
         unfolding step
         told_all s =
             record {
-              past = omega (arith, sk.over.forward, f.past, v.1.past, t.1.past, sk'.over.forward);
+              past = omega (arith, sk.forward, f.past, v.1.past, t.1.past, sk'.forward);
               inside = omega (arith, s.inside);
-              binary = v.0;
-              in_time = t.0;
               comes = λ k m p used g. on_end k m p used g ∙ gaps_mark k m text (in_phase p used (telling g (ending ∷ []) (node ∷ value ∷ time ∷ []))) sk' true SEMICOLON s refl;
             }

@@ -1,12 +1,12 @@
 -- The two lists and their words: what is read of a whole text.
 -- Assumes nothing.
-use mathlib.Core.Path.{◌≡◌, refl, sym, ◌∙◌, subst}
+use mathlib.Core.Path.{◌≡◌, refl, sym, ◌∙◌, ap, subst}
 use mathlib.Core.Bool.{Bool, true, false, ◌&&◌}
-use mathlib.Core.List.{List, []}
+use mathlib.Core.List.{List, [], ◌++◌}
 use mathlib.Core.Option.{some, none}
 use native.Mathlib.Decide.{dec_lt}
 use native.Mathlib.Omega.{arith}
-use Prim.Native.Nat.{ℕ, ◌*◌, ◌≤◌, ◌<◌}
+use Prim.Native.Nat.{ℕ, ◌≤◌, ◌<◌}
 use lib.Dec.{eqb, ltb}
 use lib.ListN.{length}
 use Rattle.scans.proofs.Bools.{says, both_ways}
@@ -14,9 +14,7 @@ use Rattle.std.specs.Prelude.{Result}
 use Rattle.std.proofs.lemmas.Result.{MatchResult-weaker}
 use Rattle.stored.specs.Bytes.{byte_at}
 use Rattle.phrases.specs.declared.items.Stopped.{Stopped}
-use Rattle.assertions.specs.declared.Written.{Written}
-use Rattle.texts.specs.Putting.{Puts}
-use Rattle.texts.proofs.PutLaws.{puts_then}
+use Rattle.phrases.specs.GuardsRead.{records_in}
 use Rattle.grammar.specs.Items.{Keyword, GIVEN, EXPECT, WHEN, IS, AT, word, letters}
 use Rattle.grammar.specs.Grammar.{Clause, sizes}
 use Rattle.grammar.specs.Records.{list_expressions, list_clauses, text_expressions, text_clauses}
@@ -24,7 +22,7 @@ use Rattle.grammar.specs.Points.{start, step, finished}
 use Rattle.grammar.specs.Bytewise.{ready, reads, stops, reading}
 use Rattle.phrases.specs.Places.{Stands, Skips, NoGap, Broken, Spelt}
 use Rattle.assertions.specs.ListsRead.{list_added, ListNone, ListOver}
-use Rattle.assertions.specs.TextsRead.{listing_at, RestAsked, RestTo, RestNone, RestAt, TextTo, TextNone, TextAt}
+use Rattle.assertions.specs.TextsRead.{listing_at, RestTo, RestNone, RestAt, TextTo, TextNone, TextAt}
 use Rattle.phrases.proofs.Feeding.{run_past, run_end, run_gaps, run_some}
 use Rattle.phrases.proofs.Stopping.{touching_stops, nothing_goes}
 use Rattle.phrases.proofs.WordRuns.{word_goes, word_stops}
@@ -40,7 +38,7 @@ module _ (k n : ℕ) (text : List ℕ) (gs : List Clause) (e : ℕ) where
       touching_stops k n text (listing_at true gs e) i (λ o. absurd (omega (arith, x.1))) (subst (NoGap text) x.0 sk.ends) (λ m _. refl)
 
   expect_goes : {i q : ℕ} → Skips text i q → eqb q i && ltb i (length text) ≡ false → reading k n text i (ready true) (listing_at true gs e) ≡ reading k n text q (ready false) (listing_at true gs e)
-  expect_goes {i} {q} sk t = run_past k n text true (listing_at true gs e) sk.over (λ same. go same (dec_lt i (length text))) refl
+  expect_goes {i} {q} sk t = run_past k n text true (listing_at true gs e) sk (λ same. go same (dec_lt i (length text))) refl
     where
       go : q ≡ i → Dec (i < length text) → reading k n text q (ready true) (listing_at true gs e) ≡ reading k n text q (ready false) (listing_at true gs e)
       go same (yes h) = both_ways (simp says (same, h)) t
@@ -86,104 +84,79 @@ module _ (k n : ℕ) (text : List ℕ) where
   given_stops : {i j : ℕ} → Skips text 0 i → Broken text i (letters GIVEN) j → reading k n text 0 (ready false) start ≡ stops j
   unfolding step finished
   given_stops {i} sk b =
-      run_gaps k n text start sk.over
+      run_gaps k n text start sk
       ∙ word_stops k n text start GIVEN given_steps (λ f. nothing_goes k n text start i (λ _. refl) sk.ends (λ m _. refl) (λ d _ _. refl) (λ v _. refl) (no_given f)) b
 
   given_goes : {i q : ℕ} → Skips text 0 i → Spelt text i (letters GIVEN) q → reading k n text 0 (ready false) start ≡ reading k n text q (ready true) (listing_at false [] 0)
-  given_goes sk sp = run_gaps k n text start sk.over ∙ word_goes k n text start GIVEN given_steps sp
+  given_goes sk sp = run_gaps k n text start sk ∙ word_goes k n text start GIVEN given_steps sp
 
   given_touched : {i q : ℕ} → Skips text i q → q ≡ i → reading k n text i (ready true) (listing_at false [] 0) ≡ stops i
   unfolding step finished
   given_touched {i} sk same = touching_stops k n text (listing_at false [] 0) i (λ _. refl) (subst (NoGap text) same sk.ends) (λ m _. refl)
 
   given_listed : {i q r : ℕ} → Skips text 0 i → Spelt text i (letters GIVEN) q → Skips text q r → ¬ (r ≡ q) → reading k n text 0 (ready false) start ≡ reading k n text r (ready false) (listing_at false [] 0)
-  given_listed sk sp sk' apart = given_goes sk sp ∙ run_some k n text true (listing_at false [] 0) sk'.over (omega (arith, sk'.over.forward))
+  given_listed sk sp sk' apart = given_goes sk sp ∙ run_some k n text true (listing_at false [] 0) sk' (omega (arith, sk'.forward))
 
 -- `expect` and its list
-module _ {k n e c i : ℕ} {text es cs : List ℕ} where
-  pub expect_none : {j : ℕ} → NoGap text i → ¬ Stands text i 119 → Broken text i (letters EXPECT) j → RestNone k n e c i text es es cs cs j
-  expect_none clean f b = record { size_e = refl; size_c = refl; comes = λ gs _. expect_stops k n text gs e clean f b }
+module _ {k n i : ℕ} {text es cs : List ℕ} where
+  pub expect_none : {j : ℕ} → NoGap text i → ¬ Stands text i 119 → Broken text i (letters EXPECT) j → RestNone k n i text es cs j
+  expect_none clean f b = record { comes = λ gs _. expect_stops k n text gs (records_in es) clean f b }
 
   module _ {q r : ℕ} {t : Bool} (sp : Spelt text i (letters EXPECT) q) (sk : Skips text q r) (t-is : t ≡ eqb r q && ltb q (length text)) where
-    pub rest_touched : t ≡ true → RestNone k n e c i text es es cs cs q
-    rest_touched h = record { size_e = refl; size_c = refl; comes = λ gs _. expect_read k n text gs e sp ∙ expect_touched k n text gs e sk (sym t-is ∙ h) }
+    pub rest_touched : t ≡ true → RestNone k n i text es cs q
+    rest_touched h = record { comes = λ gs _. expect_read k n text gs (records_in es) sp ∙ expect_touched k n text gs (records_in es) sk (sym t-is ∙ h) }
 
-    module _ (h : t ≡ false) {es' cs' : List ℕ} where
-      pub rest_fails : {j : ℕ} → ListNone k n e c r text es es' cs cs' j → RestNone k n e c i text es es' cs cs' j
-      rest_fails x = record { size_e = x.size_e; size_c = x.size_c; comes = λ gs same. expect_read k n text gs e sp ∙ expect_goes k n text gs e sk (sym t-is ∙ h) ∙ x.comes (listing_at true gs e) (omega arith) }
+    module _ (h : t ≡ false) where
+      pub rest_fails : {j : ℕ} → ListNone k n r text es cs j → RestNone k n i text es cs j
+      rest_fails x =
+          record { comes = λ gs same. expect_read k n text gs (records_in es) sp ∙ expect_goes k n text gs (records_in es) sk (sym t-is ∙ h) ∙ x.comes (listing_at true gs (records_in es)) (omega arith) }
 
-      module _ {u f d : ℕ} (l : ListOver k n 1 e c r text es es' cs cs' u f d) where
-        listed : (gs : List Clause) → length gs ≡ c → reading k n text i (ready false) (listing_at false gs e) ≡ reading k n text u (ready false) (list_added (listing_at true gs e) f l.to.clauses)
-        listed gs same = expect_read k n text gs e sp ∙ expect_goes k n text gs e sk (sym t-is ∙ h) ∙ l.to.comes (listing_at true gs e) (omega arith)
+      module _ {es' cs' : List ℕ} {u : ℕ} (l : ListOver k n 1 r text es es' cs cs' u) where
+        listed : (gs : List Clause) → length gs ≡ records_in cs → reading k n text i (ready false) (listing_at false gs (records_in es)) ≡ reading k n text u (ready false) (list_added (listing_at true gs (records_in es)) (records_in es') l.to.clauses)
+        listed gs same = expect_read k n text gs (records_in es) sp ∙ expect_goes k n text gs (records_in es) sk (sym t-is ∙ h) ∙ l.to.comes (listing_at true gs (records_in es)) (omega arith)
 
-        pub rest_open : u < length text → RestNone k n e c i text es es' cs cs' u
-        rest_open inside =
-            record {
-              size_e = l.to.put_e.size;
-              size_c = l.to.put_c.size;
-              comes = λ gs same. listed gs same ∙ text_stops k n text gs e f l.to.clauses inside l.to.no_gap l.no_when;
-            }
+        pub rest_open : u < length text → RestNone k n i text es cs u
+        rest_open inside = record { comes = λ gs same. listed gs same ∙ text_stops k n text gs (records_in es) (records_in es') l.to.clauses inside l.to.no_gap l.no_when }
 
-        pub rest_ends : length text ≤ u → RestTo k n e c i text es es' cs cs' f d
+        pub rest_ends : length text ≤ u → RestTo k n i text es es' cs cs'
         rest_ends over =
-            record {
-              expect = l.to.clauses;
-              few_e = l.to.few_e;
-              few_c = l.to.few_c;
-              put_e = l.to.put_e;
-              put_c = l.to.put_c;
-              comes = λ gs same. listed gs same ∙ text_ends k n text gs e f l.to.clauses over;
-            }
+            record { expect = l.to.clauses; put_e = l.to.put_e; put_c = l.to.put_c; comes = λ gs same. listed gs same ∙ text_ends k n text gs (records_in es) (records_in es') l.to.clauses over }
 
--- `given` and its list, and the rest
-module _ {k n i : ℕ} {text es cs : List ℕ} (sk : Skips text 0 i) where
-  pub text_none : {j : ℕ} → Broken text i (letters GIVEN) j → TextNone k n text es es cs cs j
-  text_none b = record { size_e = refl; size_c = refl; comes = given_stops k n text sk b }
+-- `given` and its list, and the rest, where nothing has been read
+module _ {k n i : ℕ} {text : List ℕ} (sk : Skips text 0 i) where
+  pub text_none : {j : ℕ} → Broken text i (letters GIVEN) j → TextNone k n text j
+  text_none b = record { comes = given_stops k n text sk b }
 
   module _ {q r : ℕ} (sp : Spelt text i (letters GIVEN) q) (sk' : Skips text q r) where
-    pub given_close : r ≡ q → TextNone k n text es es cs cs q
-    given_close same = record { size_e = refl; size_c = refl; comes = given_goes k n text sk sp ∙ given_touched k n text sk' same }
+    pub given_close : r ≡ q → TextNone k n text q
+    given_close same = record { comes = given_goes k n text sk sp ∙ given_touched k n text sk' same }
 
-    module _ (apart : ¬ (r ≡ q)) {es₁ cs₁ : List ℕ} where
-      pub given_fails : {j : ℕ} → ListNone k n 0 0 r text es es₁ cs cs₁ j → TextNone k n text es es₁ cs cs₁ j
-      given_fails x = record { size_e = x.size_e; size_c = x.size_c; comes = given_listed k n text sk sp sk' apart ∙ x.comes (listing_at false [] 0) refl }
+    module _ (apart : ¬ (r ≡ q)) {es cs : List ℕ} (es-empty : es ≡ []) (cs-empty : cs ≡ []) where
+      pub given_fails : {j : ℕ} → ListNone k n r text es cs j → TextNone k n text j
+      given_fails x = let y = rw (es-empty, cs-empty) at x in record { comes = given_listed k n text sk sp sk' apart ∙ y.comes (listing_at false [] 0) refl }
 
-      module _ {u f d : ℕ} (l : ListOver k n 0 0 0 r text es es₁ cs cs₁ u f d) where
-        on_rest : reading k n text 0 (ready false) start ≡ reading k n text u (ready false) (listing_at false l.to.clauses f)
-        on_rest = given_listed k n text sk sp sk' apart ∙ l.to.comes (listing_at false [] 0) refl
+      module _ {es₁ cs₁ : List ℕ} {u : ℕ} (l : ListOver k n 0 r text es es₁ cs cs₁ u) where
+        -- all that the list says, of what was empty
+        from_empty : ListOver k n 0 r text [] es₁ [] cs₁ u
+        from_empty = rw (es-empty, cs-empty) at l
 
-        pub text_to : {g h : ℕ} {es₂ cs₂ : List ℕ} → RestTo k n f d u text es₁ es₂ cs₁ cs₂ g h → TextTo k n text es es₂ cs cs₂ g h
+        given_count : length from_empty.to.clauses ≡ records_in cs₁
+        given_count = omega (arith, from_empty.to.count_c)
+
+        on_rest : reading k n text 0 (ready false) start ≡ reading k n text u (ready false) (listing_at false from_empty.to.clauses (records_in es₁))
+        on_rest = given_listed k n text sk sp sk' apart ∙ from_empty.to.comes (listing_at false [] 0) refl
+
+        text_to : {es₂ cs₂ : List ℕ} → RestTo k n u text es₁ es₂ cs₁ cs₂ → TextTo k n text es₂ cs₂
         unfolding text_expressions text_clauses
-        text_to {g} {h} {es₂} {cs₂} y =
-            let f_is : f ≡ sizes l.to.clauses = omega (arith, l.to.count_e) in
+        text_to y =
+            let before = from_empty.to in
+            let e_is : records_in es₁ ≡ sizes before.clauses = omega (arith, before.count_e) in
             record {
-              t = record { given = l.to.clauses; expect = y.expect };
-              few_e = y.few_e;
-              few_c = y.few_c;
-              put_e = puts_then l.to.put_e (subst (λ a. Puts (list_expressions a y.expect) (8 * f) es₁ es₂ (8 * g)) f_is y.put_e);
-              put_c = puts_then l.to.put_c (subst (λ a. Puts (list_clauses 1 a y.expect) (8 * d) cs₁ cs₂ (8 * h)) f_is y.put_c);
-              comes = on_rest ∙ y.comes l.to.clauses (omega (arith, l.to.count_c));
+              t = record { given = before.clauses; expect = y.expect };
+              es_are = (rw e_is at y.put_e) ∙ ap (λ l. l ++ list_expressions (sizes before.clauses) y.expect) before.put_e;
+              cs_are = (rw e_is at y.put_c) ∙ ap (λ l. l ++ list_clauses 1 (sizes before.clauses) y.expect) before.put_c;
+              comes = on_rest ∙ y.comes before.clauses given_count;
             }
 
-        pub text_fails : {j : ℕ} {es₂ cs₂ : List ℕ} → RestNone k n f d u text es₁ es₂ cs₁ cs₂ j → TextNone k n text es es₂ cs cs₂ j
-        text_fails y = record { size_e = y.size_e ∙ l.to.put_e.size; size_c = y.size_c ∙ l.to.put_c.size; comes = on_rest ∙ y.comes l.to.clauses (omega (arith, l.to.count_c)) }
-
-        pub text_at : {w : Result Written Stopped} {es₂ cs₂ : List ℕ} → RestAt k n f d u text es₁ es₂ cs₁ cs₂ w → TextAt k n text es es₂ cs cs₂ w
-        text_at {w} x = record { says = MatchResult-weaker w x.says (λ _. text_to) (λ _. text_fails) }
-
--- what the next part is read with
-module _ {k n e c i : ℕ} {text es cs : List ℕ} (asked : RestAsked k n e c i text es cs) where
-  pub asked_on : {q : ℕ} → q ≤ length text → RestAsked k n e c q text es cs
-  asked_on h = record { inside = h; few_variables = asked.few_variables; few_nodes = asked.few_nodes; few_e = asked.few_e; few_c = asked.few_c; enough_e = asked.enough_e; enough_c = asked.enough_c }
-
-  pub asked_after : {side q r f d : ℕ} {es' cs' : List ℕ} → ListOver k n side e c q text es es' cs cs' r f d → RestAsked k n f d r text es' cs'
-  asked_after l =
-      record {
-        inside = l.to.inside;
-        few_variables = asked.few_variables;
-        few_nodes = asked.few_nodes;
-        few_e = l.to.few_e;
-        few_c = l.to.few_c;
-        enough_e = omega (arith, asked.enough_e, l.to.put_e.size);
-        enough_c = omega (arith, asked.enough_c, l.to.put_c.size);
-      }
+        pub text_at : {es₂ cs₂ : List ℕ} {w : Result (Unit {0}) Stopped} → RestAt k n u text es₁ es₂ cs₁ cs₂ w → TextAt k n text es₂ cs₂ w
+        text_at {w = w} x = record { says = MatchResult-weaker w x.says (λ _. text_to) (λ _ y. record { comes = on_rest ∙ y.comes from_empty.to.clauses given_count }) }

@@ -1,8 +1,8 @@
 -- What reading the rest of a clause at a place comes to.
 -- Assumes nothing.
 use Rattle.std.specs.Prelude.{◌≡◌, Bool, true, false, List, [], ◌∷◌, ◌++◌, ℕ, ◌≤◌, ◌<◌, length, drop, Result, MatchResult}
-use Rattle.assertions.specs.declared.clauses.Counted.{Counted}
-use Rattle.assertions.specs.declared.clauses.Told.{Told}
+use Rattle.assertions.specs.declared.parts.Counted.{Counted}
+use Rattle.assertions.specs.declared.parts.Told.{Told}
 use Rattle.phrases.specs.declared.items.Stopped.{Stopped}
 use Rattle.grammar.specs.Items.{Keyword, letters as spelled_so}
 use Rattle.grammar.specs.Guards.{Guard}
@@ -41,8 +41,6 @@ clause_added p used c = added (in_phase p used listing) c
 pub record ToldTo (text : List ℕ) (touching : Bool) (slots : List Slot) (ns : List ℕ) (i node value time q : ℕ) : Type 0 where
   pub past : i < q
   pub inside : q ≤ length text
-  pub binary : value < 2
-  pub in_time : time < 256
   pub comes : (k n : ℕ) (p : Point) (used : ℕ) (g : Guard)
       → awaiting k n text i (ready touching) p used g slots ns ≡ run k n q (at (ready false) (clause_added p used (record { guard = g; node = node; value = value; time = time }))) (drop q text)
 

@@ -1,10 +1,9 @@
--- The number of a list in a clause's record.
+-- The number of a side in a clause's record.
 -- Assumes nothing.
 use Rattle.std.specs.Prelude.{ℕ}
-use Rattle.assertions.specs.declared.lists.Side.{Side}
-use Rattle.assertions.specs.declared.lists.Side.TheVariants.{Given, Expect}
+use Rattle.meaning.specs.declared.Side.{Side}
+use Rattle.meaning.specs.declared.Side.TheVariants.{Stimulus, Expectation}
 
--- stimulus is 0, expectation 1
 abbrev pub side_of : Side → ℕ
-side_of Given = 0
-side_of Expect = 1
+side_of Stimulus = 0
+side_of Expectation = 1

@@ -4,23 +4,8 @@ ghost use Rattle.grammar.specs.Points.{below, clause_slots};
 ghost use Rattle.phrases.specs.Places.{NoGap};
 ghost use Rattle.assertions.specs.ClausesRead.{CountedAt, LabelledAt, ToldAt};
 
+use crate::parts::{Counted, Limits, Told};
 use phrases::items::{Stopped, after_digits, is_at, skip, spell};
-
-// A number and the place after it.
-#[derive(Clone, Copy, Debug, PartialEq, Eq)]
-pub struct Counted {
-    pub value: usize,
-    pub at: usize,
-}
-
-// What a clause says, and the place after it.
-#[derive(Clone, Copy, Debug, PartialEq, Eq)]
-pub struct Told {
-    pub node: usize,
-    pub value: usize,
-    pub time: usize,
-    pub at: usize,
-}
 
 // A number below the limit, without zeros in front.
 fn number(text: &[u8], at: usize, limit: usize) -> Result<Counted, Stopped>
@@ -62,11 +47,11 @@ fn labelled(text: &[u8], at: usize, word: &[u8], limit: usize) -> Result<Counted
 }
 
 // `NODE is VALUE at TIME ;`
-pub fn said(text: &[u8], at: usize, n: usize) -> Result<Told, Stopped>
-    requires { (at ≤ length text.now) × (n ≤ 65536) }
-    ensures { ToldAt text.now false (clause_slots n) [] at result }
+pub fn said(text: &[u8], at: usize, limits: Limits) -> Result<Told, Stopped>
+    requires { at ≤ length text.now }
+    ensures { ToldAt text.now false (clause_slots limits.n) [] at result }
 {
-    let node = number(text, skip(text, at), n)?;
+    let node = number(text, skip(text, at), limits.n)?;
     let value = labelled(text, node.at, b"is", 2)?;
     let time = labelled(text, value.at, b"at", 256)?;
     let end = skip(text, time.at);

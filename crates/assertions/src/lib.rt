@@ -3,17 +3,20 @@
 
 mod clauses;
 mod lists;
+mod parts;
 mod reading;
 
-ghost use Rattle.std.specs.Prelude.{◌≡◌, ◌&&◌, ◌*◌, ◌≤◌, leb};
+ghost use Rattle.std.specs.Prelude.{◌≡◌, ◌&&◌, leb};
 ghost use Rattle.grammar.specs.Grammar.{limits};
 ghost use Rattle.assertions.specs.Answering.{Answered};
 ghost use Rattle.assertions.specs.Refusals.{number_of, byte_of};
 ghost use Rattle.assertions.specs.declared.TextRefusal.TheVariants.{Text};
 
+use crate::parts::{Limits, TextRecords};
 use crate::reading::whole_text;
 use blocks::layout::limits_ok;
 use phrases::items::Stopped;
+use phrases::records::Records;
 use stored::Size;
 use texts::put_text;
 
@@ -69,12 +72,11 @@ fn in_limits(k: usize, n: usize) -> bool
     limits_ok(Size { k, n, e: 0, c: 0 })
 }
 
-// Both lists have room for so many records.
-fn has_room(written: Written, expressions: usize, clauses: usize) -> bool
-    requires { (written.expressions ≤ 504) × (written.clauses ≤ 504) }
-    ensures { result ≡ leb (8 * written.expressions) expressions && leb (8 * written.clauses) clauses }
+// Both lists have room for so many bytes.
+fn has_room(es: usize, cs: usize, expressions: usize, clauses: usize) -> bool
+    ensures { result ≡ leb es expressions && leb cs clauses }
 {
-    8 * written.expressions <= expressions && 8 * written.clauses <= clauses
+    es <= expressions && cs <= clauses
 }
 
 // A text of `given` and `expect` for k variables and n nodes.
@@ -90,13 +92,20 @@ pub fn read_text(
     if !in_limits(k, n) {
         return Err(TextRefusal::Header);
     }
-    let mut es = [0u8; 4032];
-    let mut cs = [0u8; 4032];
-    let written = whole_text(text, k, n, &mut es, &mut cs)?;
-    if !has_room(written, expressions.len(), clauses.len()) {
+    let mut records = TextRecords {
+        expressions: Records::new(),
+        clauses: Records::new(),
+    };
+    whole_text(text, Limits { k, n }, &mut records)?;
+    let es = records.expressions.bytes();
+    let cs = records.clauses.bytes();
+    if !has_room(es.len(), cs.len(), expressions.len(), clauses.len()) {
         return Err(TextRefusal::Room);
     }
-    put_text(&es[..8 * written.expressions], expressions, 0);
-    put_text(&cs[..8 * written.clauses], clauses, 0);
-    Ok(written)
+    put_text(es, expressions, 0);
+    put_text(cs, clauses, 0);
+    Ok(Written {
+        expressions: records.expressions.count(),
+        clauses: records.clauses.count(),
+    })
 }

@@ -1,17 +1,17 @@
 -- From the rows to the row and the answer of the case.
 -- Assumes nothing.
-use Rattle.std.proofs.Common.{◌≡◌, refl, sym, ◌∙◌, ap, Option, None, Some, Bool, true, false, not, ℕ, zero, suc, ◌+◌, ◌<◌, ◌≤◌, List, [], ◌∷◌, ◌++◌, length, take, get_or, add-one, subst, arith}
+use Rattle.std.proofs.Common.{◌≡◌, refl, sym, ◌∙◌, ap, Option, None, Some, Bool, true, false, not, ℕ, zero, suc, ◌+◌, ◌<◌, ◌≤◌, List, length, take, get_or, add-one, subst, arith}
 use Rattle.std.proofs.Math.Seq.{take-suc}
 use Rattle.std.specs.Option.{is_some}
 use Rattle.scans.specs.First.{first_bad, is_clear, each, place_in, first_place}
-use Rattle.scans.proofs.Bools.{both_ways, is_true, of_true, is_false}
-use Rattle.scans.proofs.Search.{none_some, stopped_at, clear_each, each_e, each_i, each_suc, first_bad_same}
+use Rattle.scans.proofs.Bools.{both_ways, is_false}
+use Rattle.scans.proofs.Search.{stopped_at, each_e, each_suc, first_bad_same}
 use Rattle.meaning.specs.declared.CaseAnswer.{CaseAnswer}
-use Rattle.meaning.specs.declared.CaseAnswer.TheVariants.{Passes, Empty, Fails}
-use Rattle.meaning.specs.Values.{Cell, collides, cell_number}
+use Rattle.meaning.specs.declared.CaseAnswer.TheVariants.{Passes, Empty}
+use Rattle.meaning.specs.Values.{collides, cell_number}
 use Rattle.meaning.specs.Jobs.{Job, until, latest, last_time}
 use Rattle.meaning.specs.Rows.{cell, row_clear, row_numbers}
-use Rattle.meaning.specs.Cases.{met_at, wanted_at, answer_at, answer_of, case_answer}
+use Rattle.meaning.specs.Cases.{met_at, answer_at, answer_of, case_answer}
 use Rattle.meaning.proofs.Clauses.{latest_le}
 use Rattle.decoded.specs.declared.Plan.{Plan}
 use Rattle.decoded.specs.Plans.{clause_of}

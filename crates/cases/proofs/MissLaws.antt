@@ -1,10 +1,9 @@
 -- Misses: what the clauses of a time that a row misses want of its nodes, and the lowest node that misses one.
 -- Assumes nothing.
-use Rattle.std.proofs.Common.{◌≡◌, refl, sym, ◌∙◌, ap, Option, None, Some, Bool, true, false, not, ◌&&◌, ◌||◌, cond, eqb, ℕ, zero, suc, ◌<◌, ◌≤◌, List, [], ◌∷◌, ◌++◌, arith}
+use Rattle.std.proofs.Common.{◌≡◌, refl, sym, ◌∙◌, ap, Option, None, Some, Bool, true, false, not, ◌&&◌, ◌||◌, cond, eqb, ℕ, zero, suc, ◌<◌, ◌≤◌, List, [], ◌∷◌, ◌++◌, MatchOption, arith}
 use mathlib.Core.Bool.{beq, and-true, and-false, or-false}
 use native.Mathlib.Decide.{ℕ_discrete, dec_lt}
 use borrow.Author.Tests.{lt-ltb, le-ltb, eq-eqb, ne_eqb}
-use mir.Val.{bool_byte}
 use Rattle.std.specs.List.{fold}
 use Rattle.std.specs.Ordering.{ord_min, is_lt, nat_cmp, bool_cmp, ordering_then}
 use Rattle.std.proofs.lemmas.List.Sums.{fold-append}
@@ -12,17 +11,16 @@ use Rattle.scans.specs.First.{first_bad, each}
 use Rattle.scans.proofs.Bools.{both_ways}
 use Rattle.scans.proofs.Search.{none_some, each_suc, each_clear, at_stopped, first_bad_same}
 use Rattle.meaning.specs.declared.Clause.{Clause}
-use Rattle.meaning.specs.declared.CaseAnswer.TheVariants.{Passes, Fails}
 use Rattle.meaning.specs.declared.Side.TheVariants.{Expectation}
-use Rattle.meaning.specs.Values.{Cell, has, bit, cell_number}
-use Rattle.meaning.specs.Jobs.{Job, on, asks}
+use Rattle.meaning.specs.Values.{Cell, has, bit}
+use Rattle.meaning.specs.Jobs.{Job, on}
 use Rattle.meaning.specs.Cases.{missed, met_at, wanted_at}
 use Rattle.meaning.proofs.Clauses.{asks_off}
 use Rattle.decoded.specs.declared.Plan.{Plan}
 use Rattle.decoded.specs.Plans.{clause_of}
 use Rattle.decoded.specs.Walks.{timed}
 use Rattle.decoded.specs.Meant.{job_in}
-use Rattle.cases.specs.Runs.{counts, misses, judged}
+use Rattle.cases.specs.Runs.{counts, misses, lowest_missed}
 use Rattle.cases.proofs.WalkLaws.{timed_fold, counts_on}
 
 each_none : (f : ℕ → Bool) → each f 0 ≡ true
@@ -210,33 +208,25 @@ module _ (p : Plan) (x t m : ℕ) (row : ℕ → Cell) where
       other true = refl
       other false = refl
 
--- so the lowest that is missed is what the time's expectation says
-module _ (p : Plan) (x t : ℕ) (row : ℕ → Cell) {ks : List Clause} (all : ks ≡ timed p.clauses p.size.c t) {r : Option (ℕ × Bool)} (l : Lowest p.size.n (missed_in (job_in p) x row ks) r) where
-  abbrev met : ℕ → Bool
-  met m = met_at (job_in p) x t m (row m)
-
+-- so the lowest that is missed is the lowest that misses the time's expectation
+module _ (p : Plan) (x t : ℕ) (row : ℕ → Cell) where
   abbrev wanted : ℕ → Bool → Bool
   wanted = missed_in (job_in p) x row (timed p.clauses p.size.c t)
 
-  lowest : Lowest p.size.n wanted r
-  lowest = rw all at l
-
-  pub none_judged : r ≡ None → Passes ≡ judged (job_in p) x t row
-  none_judged e =
-      let clear : first_bad met p.size.n ≡ None = each_clear met p.size.n (λ m h. met_is p x t m row ∙ rw (lowest.none e m false, lowest.none e m true)) in
-      rw clear
-
-  pub some_judged : (m : ℕ) (v : Bool) → r ≡ Some (m, v) → Fails t m (bool_byte v) (cell_number (row m)) ≡ judged (job_in p) x t row
-  some_judged m v e =
-      let o : LowestAt p.size.n wanted m v = lowest.some (m, v) e in
-      let stopped : first_bad met p.size.n ≡ Some m =
-      at_stopped met p.size.n (record { below = o.in_row; fails = met_is p x t m row ∙ fails v o.here; before = λ k h. met_is p x t k row ∙ rw (o.before k false h, o.before k true h) }) in
-      rw (stopped, wanted_is p x t m row) (ap (λ w. Fails t m w (cell_number (row m))) (value v o.here o.zero))
+  pub lowest_is : (r : Option (ℕ × Bool)) → Lowest p.size.n wanted r
+      → MatchOption r (lowest_missed (job_in p) x t row ≡ None) (λ q. (q.0 < p.size.n) × (lowest_missed (job_in p) x t row ≡ Some q.0) × (wanted_at (job_in p) x t q.0 (row q.0) ≡ cond q.1 1 0))
+  lowest_is None l = each_clear _ p.size.n (λ m h. met_is p x t m row ∙ rw (l.none refl m false, l.none refl m true))
+  lowest_is (Some q) l =
+      let o : LowestAt p.size.n wanted q.0 q.1 = l.some q refl in (
+        o.in_row,
+        at_stopped _ p.size.n (record { below = o.in_row; fails = met_is p x t q.0 row ∙ fails q.1 o.here; before = λ k h. met_is p x t k row ∙ rw (o.before k false h, o.before k true h) }),
+        wanted_is p x t q.0 row ∙ value q.1 o.here o.zero,
+      )
     where
-      fails : (v : Bool) → wanted m v ≡ true → (not (wanted m false) && not (wanted m true)) ≡ false
+      fails : (v : Bool) → wanted q.0 v ≡ true → (not (wanted q.0 false) && not (wanted q.0 true)) ≡ false
       fails true e = rw e (and-false _)
       fails false e = rw e
 
-      value : (v : Bool) → wanted m v ≡ true → (v ≡ true → wanted m false ≡ false) → ◌≡◌ {A = ℕ} (bool_byte v) (cond (wanted m false) 0 1)
+      value : (v : Bool) → wanted q.0 v ≡ true → (v ≡ true → wanted q.0 false ≡ false) → ◌≡◌ {A = ℕ} (cond (wanted q.0 false) 0 1) (cond v 1 0)
       value true e z = rw (z refl)
       value false e z = rw e

@@ -1,6 +1,6 @@
 -- From a row to the next: what is forced, and what joining the stimulus makes of it.
 -- Assumes nothing.
-use Rattle.std.proofs.Common.{◌≡◌, refl, sym, ◌∙◌, ap, subst, Option, None, Some, ℕ, zero, suc, ◌-◌, ◌+◌, ◌<◌, ◌≤◌, List, replicate, arith}
+use Rattle.std.proofs.Common.{◌≡◌, ◌∙◌, ap, subst, Option, None, Some, ℕ, suc, ◌-◌, ◌+◌, ◌<◌, ◌≤◌, List, replicate, arith}
 use Rattle.std.proofs.lemmas.List.{get_or-replicate}
 use Rattle.meaning.specs.declared.Node.{Node}
 use Rattle.meaning.specs.Values.{Cell, join_cells}

@@ -1,6 +1,6 @@
 -- Searches: the first place at which a test passes.
 -- Assumes nothing.
-use Rattle.std.proofs.Common.{◌≡◌, refl, sym, ◌∙◌, ap, Option, None, Some, Bool, true, false, not, ℕ, suc, ◌<◌, ◌≤◌, List, length, take, get_or, MatchOption, arith}
+use Rattle.std.proofs.Common.{◌≡◌, refl, sym, ap, Option, None, Some, Bool, true, false, not, ℕ, suc, ◌<◌, ◌≤◌, List, length, take, get_or, MatchOption, arith}
 use Rattle.std.specs.List.{AllWithin, HoldsAt}
 use Rattle.std.proofs.lemmas.List.{get_or-take, length-take-le}
 use Rattle.std.specs.Option.{is_none}

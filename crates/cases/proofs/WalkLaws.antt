@@ -1,17 +1,16 @@
 -- A walk over the clauses of one time takes in, one after the other, those of all clauses that are of that time.
 -- Assumes nothing.
-use Rattle.std.proofs.Common.{◌≡◌, refl, sym, ◌∙◌, ap, subst, Bool, true, false, ◌&&◌, cond, eqb, ℕ, zero, suc, ◌<◌, ◌≤◌, List, [], ◌∷◌, ◌++◌, length, length-append, append-nil, set, take, filter, get_or, arith}
+use Rattle.std.proofs.Common.{◌≡◌, refl, sym, ◌∙◌, Bool, true, false, ◌&&◌, cond, eqb, ℕ, zero, suc, ◌<◌, ◌≤◌, List, [], ◌∷◌, ◌++◌, length, set, take, filter, arith}
 use Rattle.std.specs.Prelude.{Option, None}
-use Rattle.std.specs.List.{fold, All}
+use Rattle.std.specs.List.{fold}
 use borrow.Author.Tests.{eq-eqb, ne_eqb}
 use native.Mathlib.Decide.{ℕ_discrete}
 use Rattle.std.proofs.Common.{get_or-set_same, get_or-set_other}
 use Rattle.cases.specs.declared.values.Value.{Value}
 use Rattle.cases.specs.Cells.{cell_of, cell_in}
-use Rattle.std.proofs.lemmas.List.{get_or-take, length-take-le, get_or_at}
 use Rattle.std.proofs.lemmas.List.Sums.{fold-append}
-use Rattle.std.proofs.lemmas.List.Elements.{filter-append, All-filter, All-from_get_or}
-use Rattle.std.proofs.Math.Seq.{take-suc, append_snoc}
+use Rattle.std.proofs.lemmas.List.Elements.{filter-append}
+use Rattle.std.proofs.Math.Seq.{take-suc}
 use Rattle.meaning.specs.declared.Clause.{Clause}
 use Rattle.meaning.specs.declared.Side.{Side}
 use Rattle.meaning.specs.declared.Side.TheVariants.{Stimulus}
@@ -21,16 +20,11 @@ use Rattle.meaning.specs.Jobs.{same_side, on, Job, speaks, asks}
 use Rattle.meaning.specs.Rows.{asked_by, stimulus_at}
 use Rattle.meaning.proofs.Cells.{join_nothing, join_assoc}
 use Rattle.meaning.proofs.Clauses.{asks_off}
-use Rattle.decoded.specs.Plans.{no_clause, clause_of, ClauseWithin}
-use Rattle.decoded.specs.Walks.{timed, timed_from}
+use Rattle.decoded.specs.Plans.{no_clause, clause_of}
+use Rattle.decoded.specs.Walks.{timed}
 use Rattle.decoded.specs.Meant.{job_in}
 use Rattle.decoded.specs.declared.Plan.{Plan}
-use Rattle.decoded.specs.declared.walk.ClausesAt.{ClausesAt}
 use Rattle.cases.specs.Runs.{counts}
-
--- what a walk has left
-abbrev pub left : ClausesAt → List Clause
-left s = timed_from s.plan.now.clauses s.plan.now.size.c s.time s.next
 
 module _ (clauses : List Clause) (t : ℕ) where
   timed_suc : (i : ℕ) → i < length clauses → timed clauses (suc i) t ≡ timed clauses i t ++ filter (λ k. on k t) (clause_of clauses i ∷ [])
@@ -44,29 +38,6 @@ module _ (clauses : List Clause) (t : ℕ) where
       go : (b : Bool) → fold f (fold f a (timed clauses i t)) (cond b (clause_of clauses i ∷ []) []) ≡ cond b (f (fold f a (timed clauses i t)) (clause_of clauses i)) (fold f a (timed clauses i t))
       go true = refl
       go false = refl
-
-  -- what holds of each of the first c clauses holds of the one that a walk has come to
-  pub timed_at : (P : Clause → Type 0) (c : ℕ) → c ≤ length clauses → ((i : ℕ) → i < c → P (clause_of clauses i)) → (done rest : List Clause) (k : Clause) → done ++ k ∷ rest ≡ timed clauses c t → P k
-  timed_at P c long each done rest k e =
-      let all : All P (timed clauses c t) = All-filter (λ k. on k t) P (take c clauses)
-      (All-from_get_or P (take c clauses) no_clause (λ i h. let l : i < c = omega (arith, h, length-take-le c clauses long) in rw (get_or-take c clauses i no_clause l) (each i l))) in
-      let here : P (get_or (done ++ k ∷ rest) (length done) no_clause) = subst (All P) (sym e) all (length done) no_clause (omega (arith, length-append done (k ∷ rest))) in
-      rw (get_or_at done k rest no_clause (length done) refl) at here
-
--- a walk over a plan's clauses of time t: those that it has come to, and those that are left
-pub record Walking (p : Plan) (t : ℕ) (done rest : List Clause) : Type 0 where
-  pub is : done ++ rest ≡ timed p.clauses p.size.c t
-
-module _ {p : Plan} {t : ℕ} {done rest : List Clause} (w : Walking p t done rest) where
-  -- it comes to clauses within the plan's limits only
-  pub walk_within : {k : Clause} {rest' : List Clause} → rest ≡ k ∷ rest' → ClauseWithin p.size.n p.size.e k
-  walk_within {k} {rest'} e = timed_at p.clauses t (ClauseWithin p.size.n p.size.e) p.size.c p.decoded.clauses_long p.decoded.clause done rest' k (rw e at w.is)
-
-  pub walk_more : {k : Clause} {rest' : List Clause} → rest ≡ k ∷ rest' → Walking p t (done ++ k ∷ []) rest'
-  walk_more {k} {rest'} e = record { is = append_snoc done k rest' ∙ (rw e at w.is) }
-
-  pub walk_end : rest ≡ [] → done ≡ timed p.clauses p.size.c t
-  walk_end e = sym (append-nil done) ∙ (rw e at w.is)
 
 -- at its time, a clause asks of a node where it counts and is of that node
 pub counts_on : (j : Job) (x t m : ℕ) (side : Side) (k : Clause) → on k t ≡ true → counts j x side k && eqb k.node m ≡ asks j side x t m k

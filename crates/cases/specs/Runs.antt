@@ -1,11 +1,11 @@
 -- What a run of a case knows: the guards of the case, and the cells of the row that it has come to.
 -- Assumes nothing.
-use Rattle.std.specs.Prelude.{◌≡◌, Bool, not, ◌&&◌, Option, None, List, ℕ, suc, ◌%◌, ◌<◌, get_or}
+use Rattle.std.specs.Prelude.{◌≡◌, Bool, not, ◌&&◌, Option, None, List, ℕ, suc}
 use Rattle.scans.specs.First.{first_bad, place_in}
 use Rattle.meaning.specs.declared.CaseAnswer.{CaseAnswer}
 use Rattle.meaning.specs.Values.{Cell, has, bit}
 use Rattle.meaning.specs.Cases.{met_at, answer_at}
-use Rattle.meaning.specs.Guards.{bit_of, truth}
+use Rattle.meaning.specs.Guards.{truth}
 use Rattle.meaning.specs.declared.Side.{Side}
 use Rattle.meaning.specs.declared.Side.TheVariants.{Expectation}
 use Rattle.meaning.specs.declared.Clause.{Clause}
@@ -28,6 +28,10 @@ counts j x side k = same_side k.side side && truth j.expressions x k.guard
 abbrev pub misses : Job → ℕ → (ℕ → Cell) → Clause → Bool
 misses j x row k = counts j x Expectation k && not (has (row k.node) (bit k.value))
 
+-- the lowest node at which a row misses the expectation of time t
+abbrev pub lowest_missed : Job → ℕ → ℕ → (ℕ → Cell) → Option ℕ
+lowest_missed j x t row = first_bad (λ m. met_at j x t m (row m)) j.netlist.size
+
 -- what the expectation of time t says of a row in case x
 abbrev pub judged : Job → ℕ → ℕ → (ℕ → Cell) → CaseAnswer
-judged j x t row = answer_at j x (λ _. row) None (place_in t (first_bad (λ m. met_at j x t m (row m)) j.netlist.size))
+judged j x t row = answer_at j x (λ _. row) None (place_in t (lowest_missed j x t row))

@@ -1,13 +1,14 @@
 // The rows of a case, one after the other.
-ghost use Rattle.std.specs.Prelude.{◌≡◌, ℕ, ◌+◌, ◌%◌, ◌<◌, not, length, slice_index};
+ghost use Rattle.std.specs.Prelude.{◌≡◌, ℕ, ◌+◌, ◌%◌, ◌<◌, not, cond, length, slice_index, MatchOption};
 ghost use Rattle.scans.specs.First.{first_bad};
 ghost use Rattle.meaning.specs.Values.{collides, join_cells, cell_number};
+ghost use Rattle.meaning.specs.Cases.{wanted_at};
 ghost use Rattle.meaning.specs.Rows.{forces_from, forced, stimulus_at};
 ghost use Rattle.decoded.specs.Plans.{node_of, NodeWithin, ClauseWithin};
 ghost use Rattle.decoded.specs.Meant.{job_in};
 ghost use Rattle.guards.specs.Guarded.{Guarded};
 ghost use Rattle.cases.specs.Cells.{cell_of, cell_in, Shows};
-ghost use Rattle.cases.specs.Runs.{Before, counts, misses, judged};
+ghost use Rattle.cases.specs.Runs.{Before, counts, misses, lowest_missed, judged};
 
 use crate::values::{Cell, Value, has, joined, number};
 use decoded::Plan;
@@ -49,14 +50,14 @@ fn forced_row(plan: &Plan, row: &Row) -> Row
     next
 }
 
-// A case and the row of one time after another.
+// A case, and its rows one after the other.
 #[derive(Drop)]
 pub struct Run<'a> {
     plan: &'a Plan,
     case: usize,
     // The guards' words of the group of 64 cases that this one is in.
     guards: [u64; 504],
-    // The time of the next row.
+    // The time of the next row. At hand is the row before it; at time 0 there is none yet.
     next: usize,
     row: Row,
     ghost guarded: { Guarded (job_in plan.now) plan.now.size.e guards (case % 64) case },
@@ -116,8 +117,8 @@ impl<'a> Run<'a> {
     {
         for clause in self.plan.clauses_at(self.next) {
             if self.counts(Side::Stimulus, clause) {
-                let node = usize::from(clause.node);
-                row[node] = joined(row[node], clause.value);
+                let cell = &mut row[usize::from(clause.node)];
+                *cell = joined(*cell, clause.value);
             }
         }
     }
@@ -147,19 +148,27 @@ impl<'a> Run<'a> {
             && !has(self.row[usize::from(clause.node)], clause.value)
     }
 
-    // What the expectation of a time says of the row: the lowest node that misses a clause, where 0 is wanted if a missed clause wants 0.
+    // The lowest node that misses a clause of a time, and what is wanted there: 0 if a missed clause wants 0, else 1.
+    fn lowest_miss(&self, time: usize) -> Option<(u16, bool)>
+        requires { time < 256 }
+        ensures { let j = job_in self.now.plan.now in MatchOption result (lowest_missed j self.now.case time (cell_in self.now.row) ≡ None) (λ p. (p.0 < j.netlist.size) × (lowest_missed j self.now.case time (cell_in self.now.row) ≡ Some p.0) × (wanted_at j self.now.case time p.0 (cell_in self.now.row p.0) ≡ cond p.1 1 0)) }
+    {
+        let mut lowest: Option<(u16, bool)> = None;
+        for clause in self.plan.clauses_at(time) {
+            if self.misses(clause) {
+                let here = (clause.node, clause.value);
+                lowest = Some(lowest.map_or(here, |before| before.min(here)));
+            }
+        }
+        lowest
+    }
+
+    // What the expectation of a time says of the row.
     pub fn judged(&self, time: usize) -> CaseAnswer
         requires { time < 256 }
         ensures { result ≡ judged (job_in self.now.plan.now) self.now.case time (cell_in self.now.row) }
     {
-        let mut first: Option<(u16, bool)> = None;
-        for clause in self.plan.clauses_at(time) {
-            if self.misses(clause) {
-                let here = (clause.node, clause.value);
-                first = Some(first.map_or(here, |lowest| lowest.min(here)));
-            }
-        }
-        let Some((node, wanted)) = first else {
+        let Some((node, wanted)) = self.lowest_miss(time) else {
             return CaseAnswer::Passes;
         };
         let node = usize::from(node);

@@ -1,13 +1,10 @@
--- The clauses of one time: each is within bounds, and what they ask or miss is what all of a job's clauses do at that time.
+-- The clauses of one time: what they ask or miss is what all of a job's clauses do at that time.
 -- Assumes nothing.
-use Rattle.std.proofs.Common.{◌≡◌, refl, sym, ◌∙◌, ap, Bool, true, false, not, ◌&&◌, ◌||◌, cond, ℕ, zero, suc, ◌≤◌, ◌<◌, List, [], ◌∷◌, ◌++◌, length, take, slice_index_or, add-one, append_assoc, arith, All, Contains, T, subst}
+use Rattle.std.proofs.Common.{◌≡◌, refl, sym, ◌∙◌, ap, Bool, true, false, not, ◌&&◌, ◌||◌, cond, ℕ, zero, suc, ◌≤◌, ◌<◌, List, [], ◌∷◌, length, take, add-one, arith, T, subst}
 use Rattle.std.specs.List.{fold, filter, list_any}
-use Rattle.std.proofs.lemmas.List.{get_or-take, length-take-le}
-use Rattle.std.proofs.lemmas.List.Elements.{All-from_get_or, All-filter, All-contains, filter_passes, Contains-append_right}
 use Rattle.std.proofs.lemmas.List.Folds.{list_any_more}
 use Rattle.std.proofs.lemmas.List.Sums.{fold_more}
-use mathlib.Core.List.{append-nil}
-use borrow.Author.Tests.{not-true, eqb-true}
+use borrow.Author.Tests.{not-true}
 use Rattle.scans.specs.First.{first_bad, each}
 use Rattle.scans.proofs.Bools.{both_ways, is_true, of_true, same_test, and_left}
 use Rattle.scans.proofs.Search.{each_e, each_i, each_suc}
@@ -20,10 +17,9 @@ use Rattle.meaning.specs.Cases.{missed, met_at}
 use Rattle.meaning.proofs.Clauses.{asks_off, asks_node}
 use Rattle.meaning.proofs.Cells.{join_nothing}
 use Rattle.decoded.specs.declared.Plan.{Plan}
-use Rattle.decoded.specs.Plans.{no_clause, clause_of, ClauseWithin}
+use Rattle.decoded.specs.Plans.{no_clause, clause_of}
 use Rattle.decoded.specs.Meant.{job_in}
-use Rattle.decoded.specs.declared.walk.ClausesAt.{ClausesAt}
-use Rattle.decoded.specs.Walks.{timed, timed_from}
+use Rattle.decoded.specs.Walks.{timed}
 use Rattle.groups.specs.Held.{asked_in}
 
 -- clauses of another time that change nothing may be left out
@@ -58,81 +54,47 @@ any_each clauses q (suc i) h =
     go true false = refl
     go false b = refl
 
-abbrev pub rest : ClausesAt → List Clause
-rest walk = timed_from walk.plan.now.clauses walk.plan.now.size.c walk.time walk.next
+module _ (p : Plan) (t x : ℕ) where
+  abbrev j : Job
+  j = job_in p
 
-module _ (p : Plan) (t : ℕ) where
-  pub record Timely (k : Clause) : Type 0 where
-    pub within : ClauseWithin p.size.n p.size.e k
-    pub time : k.time ≡ t
+  asked_first : (m i : ℕ) → i ≤ length p.clauses → asked_in j x t (take i p.clauses) m ≡ asked_by j x t m i
+  unfolding asked_by
+  asked_first m zero h = refl
+  asked_first m (suc i) h =
+      rw (← add-one i) (fold_more (λ c k. join_cells c (asked j x t m k)) (value v_x) p.clauses i no_clause (omega arith))
+      ∙ ap (λ c. join_cells c (asked j x t m (clause_of p.clauses i))) (asked_first m i (omega arith))
 
-  all_timely : All Timely (timed p.clauses p.size.c t)
-  unfolding on
-  all_timely = λ i d l. record { within = inside i d l; time = eqb-true (slice_index_or (timed p.clauses p.size.c t) i d).time t (filter_passes (λ k. on k t) (take p.size.c p.clauses) i d l) }
+  -- what they ask of a node is its stimulus
+  pub asked_timed : (m : ℕ) → asked_in j x t (timed p.clauses p.size.c t) m ≡ stimulus_at j x t m
+  unfolding stimulus_at
+  asked_timed m =
+      fold_timed t (λ c k. join_cells c (asked j x t m k)) (λ c k e. ap (λ b. join_cells c (value (cond b (bit k.value) v_x))) (asks_off j Stimulus x t m k e) ∙ join_nothing c) (value v_x) (take p.size.c p.clauses)
+      ∙ asked_first m p.size.c p.decoded.clauses_long
+
+  -- one of them is missed where some node does not meet its expectation
+  pub missed_timed : (v : ℕ → Value) → list_any (λ k. missed j x t k.node (value (v k.node)) k) (timed p.clauses p.size.c t) ≡ not (each (λ m. met_at j x t m (value (v m))) p.size.n)
+  unfolding met_at
+  missed_timed v =
+      any_timed t missed_at (λ k e. ap (λ b. b && not (has (value (v k.node)) (bit k.value))) (asks_off j Expectation x t k.node k e)) (take p.size.c p.clauses)
+      ∙ any_each p.clauses missed_at p.size.c p.decoded.clauses_long
+      ∙ ap not (same_test _ _ forth back)
     where
-      long : length (take p.size.c p.clauses) ≡ p.size.c
-      long = length-take-le p.size.c p.clauses p.decoded.clauses_long
+      missed_at : Clause → Bool
+      missed_at k = missed j x t k.node (value (v k.node)) k
 
-      inside : All (ClauseWithin p.size.n p.size.e) (timed p.clauses p.size.c t)
-      inside = All-filter (λ k. on k t) (ClauseWithin p.size.n p.size.e) (take p.size.c p.clauses)
-          (All-from_get_or (ClauseWithin p.size.n p.size.e) (take p.size.c p.clauses) no_clause
-          (λ i l. let h : i < p.size.c = omega (arith, long) in rw (get_or-take p.size.c p.clauses i no_clause h) (p.decoded.clause i h)))
+      clause : ℕ → Clause
+      clause = clause_of p.clauses
 
-  -- what a walk has come to, and what it has left
-  pub record Walked (yielded left : List Clause) : Type 0 where
-    pub split : yielded ++ left ≡ timed p.clauses p.size.c t
+      forth : T (each (λ i. not (missed_at (clause i))) p.size.c) → T (each (λ m. met_at j x t m (value (v m))) p.size.n)
+      forth all = each_i _ p.size.n (λ m l. is_true _ (each_i _ p.size.c (λ i h. none m i h (missed j x t m (value (v m)) (clause i)) refl)))
+        where
+          none : (m i : ℕ) → i < p.size.c → (b : Bool) → missed j x t m (value (v m)) (clause i) ≡ b → not b ≡ true
+          none m i l false q = refl
+          none m i l true q =
+              let asked : T (asks j Expectation x t m (clause i)) = and_left (asks j Expectation x t m (clause i)) (not (has (value (v m)) (bit (clause i).value))) (of_true _ q) in
+              let there : (clause i).node ≡ m = asks_node j {x = x} (record { below = l; there = asked }) in
+              both_ways (subst (λ d. missed j x t d (value (v d)) (clause i) ≡ true) (sym there) q) (not-true _ (each_e _ p.size.c all i l))
 
-  module _ {yielded left after : List Clause} {k : Clause} (w : Walked yielded left) (e : left ≡ k ∷ after) where
-    pub walked_more : Walked (yielded ++ k ∷ []) after
-    walked_more = record { split = append_assoc yielded (k ∷ []) after ∙ ap (λ l. yielded ++ l) (sym e) ∙ w.split }
-
-    pub walked_timely : Timely k
-    walked_timely = All-contains Timely _ k all_timely (subst (λ l. Contains l k) (ap (λ l. yielded ++ l) (sym e) ∙ w.split) (Contains-append_right yielded (k ∷ after) k (0, omega arith, refl)))
-
-  pub walked_all : {yielded left : List Clause} → Walked yielded left → left ≡ [] → yielded ≡ timed p.clauses p.size.c t
-  walked_all {yielded} w e = sym (append-nil yielded) ∙ ap (λ l. yielded ++ l) (sym e) ∙ w.split
-
-  module _ (x : ℕ) where
-    abbrev j : Job
-    j = job_in p
-
-    asked_first : (m i : ℕ) → i ≤ length p.clauses → asked_in j x t (take i p.clauses) m ≡ asked_by j x t m i
-    unfolding asked_by
-    asked_first m zero h = refl
-    asked_first m (suc i) h =
-        rw (← add-one i) (fold_more (λ c k. join_cells c (asked j x t m k)) (value v_x) p.clauses i no_clause (omega arith))
-        ∙ ap (λ c. join_cells c (asked j x t m (clause_of p.clauses i))) (asked_first m i (omega arith))
-
-    -- what they ask of a node is its stimulus
-    pub asked_timed : (m : ℕ) → asked_in j x t (timed p.clauses p.size.c t) m ≡ stimulus_at j x t m
-    unfolding stimulus_at
-    asked_timed m =
-        fold_timed t (λ c k. join_cells c (asked j x t m k)) (λ c k e. ap (λ b. join_cells c (value (cond b (bit k.value) v_x))) (asks_off j Stimulus x t m k e) ∙ join_nothing c) (value v_x) (take p.size.c p.clauses)
-        ∙ asked_first m p.size.c p.decoded.clauses_long
-
-    -- one of them is missed where some node does not meet its expectation
-    pub missed_timed : (v : ℕ → Value) → list_any (λ k. missed j x t k.node (value (v k.node)) k) (timed p.clauses p.size.c t) ≡ not (each (λ m. met_at j x t m (value (v m))) p.size.n)
-    unfolding met_at
-    missed_timed v =
-        any_timed t missed_at (λ k e. ap (λ b. b && not (has (value (v k.node)) (bit k.value))) (asks_off j Expectation x t k.node k e)) (take p.size.c p.clauses)
-        ∙ any_each p.clauses missed_at p.size.c p.decoded.clauses_long
-        ∙ ap not (same_test _ _ forth back)
-      where
-        missed_at : Clause → Bool
-        missed_at k = missed j x t k.node (value (v k.node)) k
-
-        clause : ℕ → Clause
-        clause = clause_of p.clauses
-
-        forth : T (each (λ i. not (missed_at (clause i))) p.size.c) → T (each (λ m. met_at j x t m (value (v m))) p.size.n)
-        forth all = each_i _ p.size.n (λ m l. is_true _ (each_i _ p.size.c (λ i h. none m i h (missed j x t m (value (v m)) (clause i)) refl)))
-          where
-            none : (m i : ℕ) → i < p.size.c → (b : Bool) → missed j x t m (value (v m)) (clause i) ≡ b → not b ≡ true
-            none m i l false q = refl
-            none m i l true q =
-                let asked : T (asks j Expectation x t m (clause i)) = and_left (asks j Expectation x t m (clause i)) (not (has (value (v m)) (bit (clause i).value))) (of_true _ q) in
-                let there : (clause i).node ≡ m = asks_node j {x = x} (record { below = l; there = asked }) in
-                both_ways (subst (λ d. missed j x t d (value (v d)) (clause i) ≡ true) (sym there) q) (not-true _ (each_e _ p.size.c all i l))
-
-        back : T (each (λ m. met_at j x t m (value (v m))) p.size.n) → T (each (λ i. not (missed_at (clause i))) p.size.c)
-        back all = each_i _ p.size.c (λ i l. each_e _ p.size.c (of_true _ (each_e _ p.size.n all (clause i).node (p.decoded.clause i l).node)) i l)
+      back : T (each (λ m. met_at j x t m (value (v m))) p.size.n) → T (each (λ i. not (missed_at (clause i))) p.size.c)
+      back all = each_i _ p.size.c (λ i l. each_e _ p.size.c (of_true _ (each_e _ p.size.n all (clause i).node (p.decoded.clause i l).node)) i l)

@@ -1,7 +1,6 @@
 // The clauses of one time in sixty-four cases.
 ghost use Rattle.std.specs.Prelude.{[], ◌∷◌, ◌<◌};
-ghost use Rattle.decoded.specs.Plans.{ClauseWithin};
-ghost use Rattle.groups.specs.Grouped.{job_of, clauses_at};
+ghost use Rattle.groups.specs.Grouped.{job_of, clauses_at, Within};
 ghost use Rattle.groups.specs.Held.{Stimulates, Expects};
 ghost use Rattle.groups.specs.Steady.{Steady, SteadyBut};
 
@@ -13,7 +12,7 @@ use words::{collided, differs, narrow};
 impl Group<'_> {
     // One clause of the stimulus: its node is narrowed wherever its guard is true. Where that node then collides is told.
     fn narrow_by(&self, clause: Clause, row: &mut Row) -> u64
-        requires { ClauseWithin self.now.gates.now.plan.now.size.n self.now.gates.now.plan.now.size.e clause }
+        requires { Within self.now clause }
         ensures { Stimulates (job_of self.now) self.now.number clause.time (clause ∷ []) row.old row.new result }
     {
         if clause.side == Side::Expectation {
@@ -40,7 +39,7 @@ impl Group<'_> {
 
     // One clause of the expectation: where its guard is true and its node differs from what it wants, X included.
     fn missed_by(&self, clause: Clause, row: &Row) -> u64
-        requires { ClauseWithin self.now.gates.now.plan.now.size.n self.now.gates.now.plan.now.size.e clause }
+        requires { Within self.now clause }
         ensures { Expects (job_of self.now) self.now.number clause.time (clause ∷ []) row.now result }
     {
         if clause.side == Side::Stimulus {

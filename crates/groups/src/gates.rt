@@ -17,12 +17,12 @@ use words::{Pair, gate_pair};
 #[derive(Drop)]
 pub struct Gates<'a> {
     pub plan: &'a Plan,
-    pub bufs: Wires,
-    pub nots: Wires,
-    pub ands: Wires,
-    pub ors: Wires,
-    pub xors: Wires,
-    pub muxes: Wires,
+    bufs: Wires,
+    nots: Wires,
+    ands: Wires,
+    ors: Wires,
+    xors: Wires,
+    muxes: Wires,
     // INPUT, ZERO and ONE force the same at every time: what they do, and X for the others.
     pub steady: Row,
     ghost bufs_all: { Gathered (job_in plan.now) plan.now.size.n Buf bufs.list.items },

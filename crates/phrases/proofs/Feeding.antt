@@ -15,7 +15,7 @@ use Rattle.grammar.specs.Items.{Mark, mark, mark_byte}
 use Rattle.grammar.specs.Spelling.{is_gap}
 use Rattle.grammar.specs.Points.{Point, step, finished}
 use Rattle.grammar.specs.Bytewise.{Outcome, ready, at, Within, fed_ready, fed, going_on, onward, or_stops, stops, run, reading}
-use Rattle.phrases.specs.Places.{Stands, Gaps}
+use Rattle.phrases.specs.Places.{Stands, Skips}
 use Rattle.grammar.proofs.Fed.{fed_mark}
 
 module _ (k n : ℕ) (text : List ℕ) where
@@ -33,20 +33,20 @@ module _ (k n : ℕ) (text : List ℕ) where
   run_gap {i} touching p h g = run_byte i (ready touching) p h ∙ rw g
 
   -- gaps from i to q, none of them or some
-  pub run_gaps : {i q : ℕ} (p : Point) → Gaps text i q → reading k n text i (ready false) p ≡ reading k n text q (ready false) p
-  run_gaps {i} {q} p g = go (q - i) i (omega (arith, g.forward)) (λ m l h. g.gaps m l h)
+  pub run_gaps : {i q : ℕ} (p : Point) → Skips text i q → reading k n text i (ready false) p ≡ reading k n text q (ready false) p
+  run_gaps {i} {q} p g = go (q - i) i (omega (arith, g.forward)) (λ m l h. g.each m l h)
     where
       go : (d i : ℕ) → i + d ≡ q → ((m : ℕ) → i ≤ m → m < q → is_gap (byte_at text m) ≡ true) → reading k n text i (ready false) p ≡ reading k n text q (ready false) p
       go zero i e f = let same : i ≡ q = omega arith in rw same
       go (suc d) i e f = run_gap false p (omega (arith, g.inside)) (f i (omega arith) (omega arith)) ∙ go d (i + 1) (omega arith) (λ m l h. f m (omega arith) h)
 
-  pub run_some : {i q : ℕ} (touching : Bool) (p : Point) → Gaps text i q → i < q → reading k n text i (ready touching) p ≡ reading k n text q (ready false) p
+  pub run_some : {i q : ℕ} (touching : Bool) (p : Point) → Skips text i q → i < q → reading k n text i (ready touching) p ≡ reading k n text q (ready false) p
   run_some {i} {q} touching p g h =
-      run_gap touching p (omega (arith, g.inside)) (g.gaps i (omega arith) h)
-      ∙ run_gaps p (record { forward = omega arith; inside = g.inside; gaps = λ m l x. g.gaps m (omega arith) x })
+      run_gap touching p (omega (arith, g.inside)) (g.each i (omega arith) h)
+      ∙ run_gaps p (record { forward = omega arith; inside = g.inside; each = λ m l x. g.each m (omega arith) x; ends = g.ends })
 
   -- gaps or none, where it is known how reading goes on behind them
-  pub run_past : {i q : ℕ} (touching : Bool) (p : Point) {o : Outcome} → Gaps text i q → (q ≡ i → reading k n text q (ready touching) p ≡ o) → reading k n text q (ready false) p ≡ o → reading k n text i (ready touching) p ≡ o
+  pub run_past : {i q : ℕ} (touching : Bool) (p : Point) {o : Outcome} → Skips text i q → (q ≡ i → reading k n text q (ready touching) p ≡ o) → reading k n text q (ready false) p ≡ o → reading k n text i (ready touching) p ≡ o
   run_past {i} {q} touching p {o} g touch clear = go (dec_lt i q)
     where
       go : Dec (i < q) → reading k n text i (ready touching) p ≡ o

@@ -12,7 +12,7 @@ use Rattle.grammar.specs.Items.{Operator, Mark, NOT, OPEN, CLOSE, COLON, SEMICOL
 use Rattle.grammar.specs.Guards.{Guard, complement, bracketed, joined, strength}
 use Rattle.grammar.specs.Points.{Frame, negating, grouping, joining, close, groups, guarding, guarded, Phase, Point, followed, regrouped, guard_ended, step, finished, Fresh}
 use Rattle.grammar.specs.Bytewise.{stops}
-use Rattle.phrases.specs.Places.{Stands, Gaps, NoGap}
+use Rattle.phrases.specs.Places.{Stands, Skips, NoGap}
 use Rattle.phrases.specs.GuardsRead.{in_phase, wanting, having, Over}
 use Rattle.grammar.proofs.Frames.{strength_from, close_joining}
 use Rattle.phrases.proofs.Feeding.{run_gaps, mark_goes, mark_stops}
@@ -61,7 +61,7 @@ module _ (k n : ℕ) (text : List ℕ) (p : Point) (used : ℕ) {i : ℕ} where
 
 module _ (k n : ℕ) (text : List ℕ) (p : Point) (used : ℕ) (fs : List Frame) where
   -- an operator
-  pub sign_goes : {i q : ℕ} (o : Operator) (g : Guard) → Stands text i (mark_byte (SIGN o)) → Gaps text (i + 1) q → Fresh (strength o) fs → used + 2 ≤ 504 → having k n text i p used fs g ≡ wanting k n text q p (suc used) (joining o g ∷ fs)
+  pub sign_goes : {i q : ℕ} (o : Operator) (g : Guard) → Stands text i (mark_byte (SIGN o)) → Skips text (i + 1) q → Fresh (strength o) fs → used + 2 ≤ 504 → having k n text i p used fs g ≡ wanting k n text q p (suc used) (joining o g ∷ fs)
   unfolding step
   sign_goes {i} {q} o g s gs f l = mark_goes k n text false (in_phase p used (guarded fs g)) (SIGN o) s stepped ∙ run_gaps k n text (in_phase p (suc used) (guarding (joining o g ∷ fs))) gs
     where
@@ -82,7 +82,7 @@ module _ (k n : ℕ) (text : List ℕ) (p : Point) (used : ℕ) (fs : List Frame
       go o' s (no x) = rw (close_joining (strength o') o g h fs (omega arith))
 
   -- `!`
-  pub not_goes : {i q : ℕ} → Stands text i 33 → Gaps text (i + 1) q → used + 2 ≤ 504 → wanting k n text i p used fs ≡ wanting k n text q p (suc used) (negating ∷ fs)
+  pub not_goes : {i q : ℕ} → Stands text i 33 → Skips text (i + 1) q → used + 2 ≤ 504 → wanting k n text i p used fs ≡ wanting k n text q p (suc used) (negating ∷ fs)
   unfolding step
   not_goes s gs l = mark_goes k n text false (in_phase p used (guarding fs)) NOT s (rw (le-leb (used + 2) 504 l)) ∙ run_gaps k n text (in_phase p (suc used) (guarding (negating ∷ fs))) gs
 
@@ -95,7 +95,7 @@ module _ (k n : ℕ) (text : List ℕ) (p : Point) (used : ℕ) (fs : List Frame
   negated_up g clean = having_alike k n text p used (negating ∷ fs) fs g (complement g) clean refl (λ o s. refl)
 
   -- brackets
-  pub open_goes : {i q : ℕ} → Stands text i 40 → Gaps text (i + 1) q → groups fs < 32 → wanting k n text i p used fs ≡ wanting k n text q p used (grouping ∷ fs)
+  pub open_goes : {i q : ℕ} → Stands text i 40 → Skips text (i + 1) q → groups fs < 32 → wanting k n text i p used fs ≡ wanting k n text q p used (grouping ∷ fs)
   unfolding step
   open_goes s gs l = mark_goes k n text false (in_phase p used (guarding fs)) OPEN s (rw (lt-ltb (groups fs) 32 l)) ∙ run_gaps k n text (in_phase p used (guarding (grouping ∷ fs))) gs
 
@@ -103,7 +103,7 @@ module _ (k n : ℕ) (text : List ℕ) (p : Point) (used : ℕ) (fs : List Frame
   unfolding step
   open_stops s l = mark_stops k n text false (in_phase p used (guarding fs)) OPEN s (rw (le-ltb (groups fs) 32 l))
 
-  pub close_goes : {i q : ℕ} (g : Guard) → Stands text i 41 → Gaps text (i + 1) q → having k n text i p used (grouping ∷ fs) g ≡ having k n text q p used fs (bracketed g)
+  pub close_goes : {i q : ℕ} (g : Guard) → Stands text i 41 → Skips text (i + 1) q → having k n text i p used (grouping ∷ fs) g ≡ having k n text q p used fs (bracketed g)
   unfolding step close
   close_goes g s gs = mark_goes k n text false (in_phase p used (guarded (grouping ∷ fs) g)) CLOSE s refl ∙ run_gaps k n text (in_phase p used (guarded fs (bracketed g))) gs
 

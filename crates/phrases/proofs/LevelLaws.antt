@@ -1,25 +1,25 @@
 -- How a guard is made up of what its levels read: operands, `!`, and groups in brackets.
 -- Assumes nothing.
-use mathlib.Core.Path.{◌≡◌, refl, sym, ◌∙◌, ap, subst}
-use mathlib.Core.List.{List, ◌∷◌}
+use mathlib.Core.Path.{◌≡◌, refl, sym, ◌∙◌, ap}
+use mathlib.Core.List.{List, ◌∷◌, ◌++◌, append_assoc}
 use native.Mathlib.Omega.{arith}
-use Prim.Native.Nat.{ℕ, suc, ◌+◌, ◌-◌, ◌*◌, ◌≤◌, ◌<◌}
-use lib.ListN.{length}
-use Rattle.texts.specs.Putting.{Puts}
-use Rattle.texts.proofs.PutLaws.{puts_then, ended_at}
-use Rattle.phrases.specs.Operands.{NoOperand}
+use Prim.Native.Nat.{ℕ, suc, ◌+◌, ◌*◌, ◌≤◌, ◌<◌}
+use lib.ListN.{length, length-append}
+use Rattle.phrases.specs.declared.guards.Operand.{Operand}
+use Rattle.phrases.specs.declared.guards.Operand.TheVariants.{False, True, Variable}
+use Rattle.phrases.specs.Operands.{OperandHere, NoOperand, operand_record}
 use Rattle.grammar.specs.Guards.{Guard, letter, constant, complement, bracketed, size}
 use Rattle.grammar.specs.Records.{expression_record, guard_place, guard_records}
 use Rattle.grammar.specs.Points.{Frame, negating, grouping, groups, guarded, Point}
 use Rattle.phrases.specs.Places.{Stands, Skips}
-use Rattle.phrases.specs.GuardsRead.{in_phase, wanting, having, Over, GuardTo, GuardNone, GuardAsked}
+use Rattle.phrases.specs.GuardsRead.{in_phase, wanting, having, Over, GuardTo, GuardNone, GuardAsked, records_in}
 use Rattle.grammar.proofs.Frames.{strength_to, fresh_grouping, fresh_4}
 use Rattle.phrases.proofs.Feeding.{run_gaps}
 use Rattle.phrases.proofs.OperandLaws.{letter_goes, constant_goes, wanting_stops}
 use Rattle.phrases.proofs.FrameLaws.{not_goes, not_stops, negated_up, open_goes, open_stops, close_goes, close_stops}
 
 over_4 : {text : List ℕ} {i q : ℕ} → Skips text i q → Over 4 text q
-over_4 s = record { inside = s.over.inside; no_gap = s.ends; no_sign = λ h o l e. absurd (omega (arith, strength_to o)) }
+over_4 s = record { inside = s.inside; no_gap = s.ends; no_sign = λ h o l e. absurd (omega (arith, strength_to o)) }
 
 -- the same count in other words
 module _ (k n : ℕ) (text : List ℕ) (i : ℕ) (p : Point) (fs : List Frame) {a b : ℕ} (e : a ≡ b) where
@@ -29,99 +29,94 @@ module _ (k n : ℕ) (text : List ℕ) (i : ℕ) (p : Point) (fs : List Frame) {
   pub had : (g : Guard) → having k n text i p a fs g ≡ having k n text i p b fs g
   had g = ap (λ u. having k n text i p u fs g) e
 
-module _ {k depth e pending i : ℕ} {text es : List ℕ} (asked : GuardAsked k depth e pending i text es) where
+-- one record more
+pub one_record : (es r : List ℕ) {es' : List ℕ} → es' ≡ es ++ r → length r ≡ 8 → records_in es' ≡ records_in es + 1
+one_record es r put l = omega (arith, ap length put, length-append es r)
+
+module _ {k depth pending i : ℕ} {text es : List ℕ} (asked : GuardAsked pending i text es) where
   -- an operand
-  operand_to : {es' r : List ℕ} {q : ℕ} (g : Guard) → size g ≡ 1 → guard_records e g ≡ r
-      → ((n : ℕ) (p : Point) (fs : List Frame) → wanting k n text i p (e + pending) fs ≡ having k n text (i + 1) p (suc (e + pending)) fs g)
-      → Puts r (8 * e) es es' (8 * e + 8) → Skips text (i + 1) q → GuardTo 4 4 k depth e pending i text es es' q (e + 1)
-  operand_to {es'} {r} {q} g one is goes put s =
+  operand_to : {es' r : List ℕ} {q : ℕ} (g : Guard) → size g ≡ 1 → guard_records (records_in es) g ≡ r → length r ≡ 8
+      → ((n : ℕ) (p : Point) (fs : List Frame) → wanting k n text i p (records_in es + pending) fs ≡ having k n text (i + 1) p (suc (records_in es + pending)) fs g)
+      → es' ≡ es ++ r → Skips text (i + 1) q → GuardTo 4 4 k depth pending i text es es' q
+  operand_to {es'} {r} {q} g one is eight goes put s =
+      let more = one_record es r put eight in
       record {
         guard = g;
-        past = omega (arith, s.over.forward);
+        past = omega (arith, s.forward);
         over = over_4 s;
-        count = omega (arith, one);
-        few = omega (arith, asked.one_more);
-        put = ended_at (omega arith) (subst (λ l. Puts l (8 * e) es es' (8 * e + 8)) (sym is) put);
-        comes = λ n p fs d f. goes n p fs ∙ run_gaps k n text (in_phase p (suc (e + pending)) (guarded fs g)) s.over ∙ had k n text q p fs (omega arith) g;
+        count = omega (arith, one, more);
+        few = omega (arith, asked.one_more, more);
+        put = put ∙ ap (λ l. es ++ l) (sym is);
+        comes = λ n p fs d f. goes n p fs ∙ run_gaps k n text (in_phase p (suc (records_in es + pending)) (guarded fs g)) s ∙ had k n text q p fs (omega (arith, more)) g;
       }
 
-  pub letter_to : (v : ℕ) {es' : List ℕ} {q : ℕ} → v < k → Stands text i (97 + v) → Puts (expression_record 2 v 0) (8 * e) es es' (8 * e + 8) → Skips text (i + 1) q → GuardTo 4 4 k depth e pending i text es es' q (e + 1)
+  pub plain_to : (o : Operand) {es' : List ℕ} {q : ℕ} → k ≤ 12 → OperandHere k text i o → es' ≡ es ++ operand_record o → Skips text (i + 1) q → GuardTo 4 4 k depth pending i text es es' q
   unfolding size guard_records
-  letter_to v h s = operand_to (letter v) refl refl (λ n p fs. letter_goes k n text p (e + pending) fs v asked.few_variables h s)
+  plain_to False few h = operand_to (constant 0) refl refl refl (λ n p fs. constant_goes k n text p (records_in es + pending) fs 0 (omega arith) h)
+  plain_to True few h = operand_to (constant 1) refl refl refl (λ n p fs. constant_goes k n text p (records_in es + pending) fs 1 (omega arith) h)
+  plain_to (Variable v) few h = operand_to (letter v) refl refl refl (λ n p fs. letter_goes k n text p (records_in es + pending) fs v few h.0 h.1)
 
-  pub constant_to : (v : ℕ) {es' : List ℕ} {q : ℕ} → v < 2 → Stands text i (48 + v) → Puts (expression_record v 0 0) (8 * e) es es' (8 * e + 8) → Skips text (i + 1) q → GuardTo 4 4 k depth e pending i text es es' q (e + 1)
-  unfolding size guard_records
-  constant_to v h s = operand_to (constant v) refl refl (λ n p fs. constant_goes k n text p (e + pending) fs v h s)
-
-  pub operand_none : ¬ Stands text i 33 → ¬ Stands text i 40 → NoOperand k text i → GuardNone 4 k depth e pending i text es es i
-  operand_none a b here = record { size = refl; comes = λ n p fs _ _. wanting_stops k n text p (e + pending) fs a b asked.no_gap here.no-0 here.no-1 here.no_letter }
+  pub operand_none : ¬ Stands text i 33 → ¬ Stands text i 40 → NoOperand k text i → GuardNone 4 k depth pending i text es i
+  operand_none a b here = record { comes = λ n p fs _ _. wanting_stops k n text p (records_in es + pending) fs a b asked.no_gap here.no-0 here.no-1 here.no_letter }
 
   -- `!`
-  pub negated_to : {es₁ es₂ : List ℕ} {j q f : ℕ} → Stands text i 33 → e + pending + 2 ≤ 504 → Skips text (i + 1) j → GuardTo 4 4 k depth e (pending + 1) j text es es₁ q f → Puts (expression_record 3 (f - 1) 0) (8 * f) es₁ es₂ (8 * f + 8)
-      → GuardTo 4 4 k depth e pending i text es es₂ q (f + 1)
+  pub negated_to : (inner : ℕ) {es₁ es₂ : List ℕ} {j q : ℕ} → Stands text i 33 → records_in es + (pending + 2) ≤ 504 → Skips text (i + 1) j → GuardTo 4 4 k depth (pending + 1) j text es es₁ q
+      → 8 * (inner + 1) ≡ length es₁ → es₂ ≡ es₁ ++ expression_record 3 inner 0 → GuardTo 4 4 k depth pending i text es es₂ q
   unfolding size guard_records groups
-  negated_to {es₁} {es₂} {j} {q} {f} s room sk g put =
-      let same : f - 1 ≡ guard_place e g.guard = omega (arith, g.count) in
+  negated_to inner {es₁} {es₂} {j} {q} s room sk g counted put =
+      let same : inner ≡ guard_place (records_in es) g.guard = omega (arith, g.count) in
+      let more = one_record es₁ (expression_record 3 inner 0) put refl in
       record {
         guard = complement g.guard;
-        past = omega (arith, sk.over.forward, g.past);
+        past = omega (arith, sk.forward, g.past);
         over = g.over;
-        count = omega (arith, g.count);
-        few = omega (arith, g.few);
-        put = ended_at (omega arith) (puts_then g.put (subst (λ a. Puts (expression_record 3 a 0) (8 * f) es₁ es₂ (8 * f + 8)) same put));
+        count = omega (arith, g.count, more);
+        few = omega (arith, g.few, more);
+        put = put ∙ ap (λ l. l ++ expression_record 3 inner 0) g.put ∙ append_assoc es (guard_records (records_in es) g.guard) (expression_record 3 inner 0) ∙ ap (λ a. es ++ (guard_records (records_in es) g.guard ++ expression_record 3 a 0)) same;
         comes = λ n p fs d fr.
-            not_goes k n text p (e + pending) fs s sk.over room
+            not_goes k n text p (records_in es + pending) fs s sk (omega arith)
             ∙ wanted k n text j p (negating ∷ fs) (omega arith)
             ∙ g.comes n p (negating ∷ fs) d (fresh_4 (negating ∷ fs))
-            ∙ negated_up k n text p (f + (pending + 1)) fs g.guard g.over.no_gap
-            ∙ had k n text q p fs (omega arith) (complement g.guard);
+            ∙ negated_up k n text p (records_in es₁ + (pending + 1)) fs g.guard g.over.no_gap
+            ∙ had k n text q p fs (omega (arith, more)) (complement g.guard);
       }
 
-  pub negated_none : {es' : List ℕ} {j q : ℕ} → Stands text i 33 → e + pending + 2 ≤ 504 → Skips text (i + 1) j → GuardNone 4 k depth e (pending + 1) j text es es' q → GuardNone 4 k depth e pending i text es es' q
+  pub negated_none : {j q : ℕ} → Stands text i 33 → records_in es + (pending + 2) ≤ 504 → Skips text (i + 1) j → GuardNone 4 k depth (pending + 1) j text es q → GuardNone 4 k depth pending i text es q
   unfolding groups
   negated_none {j = j} s room sk g =
-      record { size = g.size; comes = λ n p fs d fr. not_goes k n text p (e + pending) fs s sk.over room ∙ wanted k n text j p (negating ∷ fs) (omega arith) ∙ g.comes n p (negating ∷ fs) d (fresh_4 (negating ∷ fs)) }
+      record { comes = λ n p fs d fr. not_goes k n text p (records_in es + pending) fs s sk (omega arith) ∙ wanted k n text j p (negating ∷ fs) (omega arith) ∙ g.comes n p (negating ∷ fs) d (fresh_4 (negating ∷ fs)) }
 
-  pub negated_full : Stands text i 33 → 504 < e + pending + 2 → GuardNone 4 k depth e pending i text es es i
-  negated_full s full = record { size = refl; comes = λ n p fs d fr. not_stops k n text p (e + pending) fs s full }
+  pub negated_full : Stands text i 33 → 504 < records_in es + (pending + 2) → GuardNone 4 k depth pending i text es i
+  negated_full s full = record { comes = λ n p fs d fr. not_stops k n text p (records_in es + pending) fs s (omega arith) }
 
   -- a group
-  pub grouped_to : {es' : List ℕ} {j r q f : ℕ} → Stands text i 40 → depth < 32 → Skips text (i + 1) j → GuardTo 1 1 k (depth + 1) e pending j text es es' r f → Stands text r 41 → Skips text (r + 1) q
-      → GuardTo 4 4 k depth e pending i text es es' q f
+  pub grouped_to : {es' : List ℕ} {j r q : ℕ} → Stands text i 40 → depth < 32 → Skips text (i + 1) j → GuardTo 1 1 k (depth + 1) pending j text es es' r → Stands text r 41 → Skips text (r + 1) q → GuardTo 4 4 k depth pending i text es es' q
   unfolding size guard_records groups
   grouped_to {j = j} s deep sk g c sk' =
       record {
         guard = bracketed g.guard;
-        past = omega (arith, sk.over.forward, g.past, sk'.over.forward);
+        past = omega (arith, sk.forward, g.past, sk'.forward);
         over = over_4 sk';
         count = g.count;
         few = g.few;
         put = g.put;
         comes = λ n p fs d fr.
-            open_goes k n text p (e + pending) fs s sk.over (omega arith)
+            open_goes k n text p (records_in es + pending) fs s sk (omega arith)
             ∙ g.comes n p (grouping ∷ fs) (omega arith) (fresh_grouping 1 fs)
-            ∙ close_goes k n text p _ fs g.guard c sk'.over;
+            ∙ close_goes k n text p _ fs g.guard c sk';
       }
 
-  pub grouped_none : {es' : List ℕ} {j q : ℕ} → Stands text i 40 → depth < 32 → Skips text (i + 1) j → GuardNone 1 k (depth + 1) e pending j text es es' q → GuardNone 4 k depth e pending i text es es' q
+  pub grouped_none : {j q : ℕ} → Stands text i 40 → depth < 32 → Skips text (i + 1) j → GuardNone 1 k (depth + 1) pending j text es q → GuardNone 4 k depth pending i text es q
   unfolding groups
-  grouped_none s deep sk g = record { size = g.size; comes = λ n p fs d fr. open_goes k n text p (e + pending) fs s sk.over (omega arith) ∙ g.comes n p (grouping ∷ fs) (omega arith) (fresh_grouping 1 fs) }
+  grouped_none s deep sk g = record { comes = λ n p fs d fr. open_goes k n text p (records_in es + pending) fs s sk (omega arith) ∙ g.comes n p (grouping ∷ fs) (omega arith) (fresh_grouping 1 fs) }
 
-  pub grouped_open : {es' : List ℕ} {j q f : ℕ} → Stands text i 40 → depth < 32 → Skips text (i + 1) j → GuardTo 1 1 k (depth + 1) e pending j text es es' q f → ¬ Stands text q 41 → GuardNone 4 k depth e pending i text es es' q
+  pub grouped_open : {es' : List ℕ} {j q : ℕ} → Stands text i 40 → depth < 32 → Skips text (i + 1) j → GuardTo 1 1 k (depth + 1) pending j text es es' q → ¬ Stands text q 41 → GuardNone 4 k depth pending i text es q
   unfolding groups
   grouped_open s deep sk g c =
       record {
-        size = g.put.size;
         comes = λ n p fs d fr.
-            open_goes k n text p (e + pending) fs s sk.over (omega arith) ∙ g.comes n p (grouping ∷ fs) (omega arith) (fresh_grouping 1 fs) ∙ close_stops k n text p _ fs g.guard g.over c;
+            open_goes k n text p (records_in es + pending) fs s sk (omega arith) ∙ g.comes n p (grouping ∷ fs) (omega arith) (fresh_grouping 1 fs) ∙ close_stops k n text p _ fs g.guard g.over c;
       }
 
-  pub grouped_deep : Stands text i 40 → 32 ≤ depth → GuardNone 4 k depth e pending i text es es i
-  grouped_deep s deep = record { size = refl; comes = λ n p fs d fr. open_stops k n text p (e + pending) fs s (omega arith) }
-
-  -- what the next operand is asked with
-  pub asked_right : {es₁ : List ℕ} {f i' j : ℕ} → length es₁ ≡ length es → f + pending + 2 ≤ 504 → Skips text i' j → GuardAsked k depth f (pending + 1) j text es₁
-  asked_right size room sk = record { inside = sk.over.inside; no_gap = sk.ends; few_variables = asked.few_variables; opened = asked.opened; one_more = omega arith; room = omega (arith, asked.room) }
-
-  pub asked_inside : {i' j : ℕ} → depth < 32 → Skips text i' j → GuardAsked k (depth + 1) e pending j text es
-  asked_inside deep sk = record { inside = sk.over.inside; no_gap = sk.ends; few_variables = asked.few_variables; opened = omega arith; one_more = asked.one_more; room = asked.room }
+  pub grouped_deep : Stands text i 40 → 32 ≤ depth → GuardNone 4 k depth pending i text es i
+  grouped_deep s deep = record { comes = λ n p fs d fr. open_stops k n text p (records_in es + pending) fs s (omega arith) }

@@ -1,7 +1,7 @@
 -- Bytes that pass a test, counted from a place on: gaps, and digits.
 -- Assumes nothing.
 use mathlib.Core.Path.{◌≡◌, ◌∙◌}
-use mathlib.Core.Bool.{Bool, true, false}
+use mathlib.Core.Bool.{Bool}
 use mathlib.Core.List.{List}
 use native.Mathlib.Omega.{arith}
 use Prim.Native.Nat.{ℕ, ◌+◌, ◌-◌, ◌≤◌, ◌<◌}
@@ -13,9 +13,8 @@ use Rattle.std.proofs.lemmas.List.Folds.{length-prefix_len}
 use Rattle.std.proofs.lemmas.List.Sums.{prefix_len-le-length, prefix_len_passes, prefix_len_stops}
 use Rattle.scans.proofs.Bools.{says}
 use Rattle.stored.specs.Bytes.{byte_at}
-use Rattle.grammar.specs.Spelling.{is_gap}
 use Rattle.grammar.specs.Bytewise.{is_digit}
-use Rattle.phrases.specs.Places.{Skips, Passes}
+use Rattle.phrases.specs.Places.{Passes}
 
 -- n is how many pass in what `&text[at..]` holds
 module _ (p : ℕ → Bool) (text : List ℕ) (at : ℕ) {n : ℕ} (h : at ≤ length text) (e : n ≡ length (take_while p (take (length text - at) (drop at text)))) where
@@ -30,9 +29,6 @@ module _ (p : ℕ → Bool) (text : List ℕ) (at : ℕ) {n : ℕ} (h : at ≤ l
         each = λ i l m. let same : at + (i - at) ≡ i = omega arith in rw same at (rw get_or-drop at (prefix_len_passes p (drop at text) (i - at) 0 (omega arith)));
         ends = λ m. rw (here, ← get_or-drop at text _ 0) (prefix_len_stops p (drop at text) 0 (simp length-drop (omega arith)));
       }
-
-pub skips : {text : List ℕ} {at q : ℕ} → Passes is_gap text at q → Skips text at q
-skips p = record { over = record { forward = p.forward; inside = p.inside; gaps = p.each }; ends = p.ends }
 
 pub record Digit (text : List ℕ) (i : ℕ) : Type 0 where
   pub inside : i < length text

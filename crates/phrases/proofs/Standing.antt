@@ -3,10 +3,8 @@
 use mathlib.Core.Path.{◌≡◌, sym, ◌∙◌}
 use mathlib.Core.Bool.{Bool, true, false}
 use mathlib.Core.List.{List}
-use Prim.Native.Nat.{ℕ, ◌≤◌, ◌<◌}
-use lib.ListN.{length}
+use Prim.Native.Nat.{ℕ}
 use Rattle.scans.proofs.Bools.{both_ways, says}
-use Rattle.stored.specs.Bytes.{byte_at}
 use Rattle.phrases.specs.Places.{is_at, Stands}
 
 pub stands : {text : List ℕ} {i b : ℕ} {t : Bool} → t ≡ is_at text i b → t ≡ true → Stands text i b
@@ -16,9 +14,5 @@ pub stands_not : {text : List ℕ} {i b : ℕ} {t : Bool} → t ≡ is_at text i
 stands_not {text = text} {i = i} {b = b} e h s = let x : is_at text i b ≡ true = simp says (s.inside, s.is) in both_ways x (sym e ∙ h)
 
 -- the same of a byte b that is m
-module _ {text : List ℕ} {i b m : ℕ} {t : Bool} (same : b ≡ m) (e : t ≡ is_at text i b) where
-  pub stands_so : t ≡ true → Stands text i m
-  stands_so h = rw same at (stands {text = text} {i = i} {b = b} e h)
-
-  pub stands_not_so : t ≡ false → ¬ Stands text i m
-  stands_not_so h = rw same at (stands_not {text = text} {i = i} {b = b} e h)
+pub stands_so : {text : List ℕ} {i b m : ℕ} {t : Bool} → b ≡ m → t ≡ is_at text i b → t ≡ true → Stands text i m
+stands_so {text} {i} {b} same e h = rw same at (stands {text = text} {i = i} {b = b} e h)

@@ -1,9 +1,7 @@
 -- What reading a guard at a place comes to, for each strength of operator.
 -- Assumes nothing.
-use Rattle.std.specs.Prelude.{◌≡◌, false, List, ℕ, ◌+◌, ◌*◌, ◌≤◌, ◌<◌, length, drop, Result, MatchResult}
+use Rattle.std.specs.Prelude.{◌≡◌, false, List, ℕ, ◌+◌, ◌/◌, ◌≤◌, ◌<◌, ◌++◌, length, drop, Result, MatchResult}
 use Rattle.stored.specs.Bytes.{byte_at}
-use Rattle.texts.specs.Putting.{Puts}
-use Rattle.phrases.specs.declared.guards.GuardEnd.{GuardEnd}
 use Rattle.phrases.specs.declared.items.Stopped.{Stopped}
 use Rattle.grammar.specs.Items.{Operator, SIGN, mark_byte}
 use Rattle.phrases.specs.Places.{NoGap}
@@ -29,30 +27,31 @@ pub record Over (s : ℕ) (text : List ℕ) (q : ℕ) : Type 0 where
   pub no_gap : NoGap text q
   pub no_sign : q < length text → (o : Operator) → s ≤ strength o → ¬ (byte_at text q ≡ mark_byte (SIGN o))
 
+-- how many records of eight bytes a list has
+abbrev pub records_in : List ℕ → ℕ
+records_in es = length es / 8
+
 -- a guard that needs no brackets at strength s stands from i to q, where no operator of strength r and above does: its records are put
--- from place e on, and reading comes to q with it
-pub record GuardTo (s r k depth e pending i : ℕ) (text es es' : List ℕ) (q f : ℕ) : Type 0 where
+-- after those that were there, and reading comes to q with it
+pub record GuardTo (s r k depth pending i : ℕ) (text es es' : List ℕ) (q : ℕ) : Type 0 where
   pub guard : Guard
   pub past : i < q
   pub over : Over r text q
-  pub count : f ≡ e + size guard
-  pub few : f + pending ≤ 504
-  pub put : Puts (guard_records e guard) (8 * e) es es' (8 * f)
-  pub comes : (n : ℕ) (p : Point) (fs : List Frame) → groups fs ≡ depth → Fresh s fs → wanting k n text i p (e + pending) fs ≡ having k n text q p (f + pending) fs guard
+  pub count : records_in es' ≡ records_in es + size guard
+  pub few : records_in es' + pending ≤ 504
+  pub put : es' ≡ es ++ guard_records (records_in es) guard
+  pub comes : (n : ℕ) (p : Point) (fs : List Frame) → groups fs ≡ depth → Fresh s fs
+      → wanting k n text i p (records_in es + pending) fs ≡ having k n text q p (records_in es' + pending) fs guard
 
 -- none does: reading stops at j
-pub record GuardNone (s k depth e pending i : ℕ) (text es es' : List ℕ) (j : ℕ) : Type 0 where
-  pub size : length es' ≡ length es
-  pub comes : (n : ℕ) (p : Point) (fs : List Frame) → groups fs ≡ depth → Fresh s fs → wanting k n text i p (e + pending) fs ≡ stops j
+pub record GuardNone (s k depth pending i : ℕ) (text es : List ℕ) (j : ℕ) : Type 0 where
+  pub comes : (n : ℕ) (p : Point) (fs : List Frame) → groups fs ≡ depth → Fresh s fs → wanting k n text i p (records_in es + pending) fs ≡ stops j
 
-pub record GuardAt (s k depth e pending i : ℕ) (text es es' : List ℕ) (r : Result GuardEnd Stopped) : Type 0 where
-  pub says : MatchResult r (λ g. GuardTo s s k depth e pending i text es es' g.at g.expressions) (λ j. GuardNone s k depth e pending i text es es' j.at)
+pub record GuardAt (s k depth pending i : ℕ) (text es es' : List ℕ) (r : Result ℕ Stopped) : Type 0 where
+  pub says : MatchResult r (GuardTo s s k depth pending i text es es') (λ j. GuardNone s k depth pending i text es j.at)
 
--- what a guard is read with: a place without a gap, at most 32 brackets open, room for one operand more
-pub record GuardAsked (k depth e pending i : ℕ) (text es : List ℕ) : Type 0 where
+-- what a guard is read with: a place without a gap, room for one operand more
+pub record GuardAsked (pending i : ℕ) (text es : List ℕ) : Type 0 where
   pub inside : i ≤ length text
   pub no_gap : NoGap text i
-  pub few_variables : k ≤ 12
-  pub opened : depth ≤ 32
-  pub one_more : e + pending < 504
-  pub room : 4032 ≤ length es
+  pub one_more : records_in es + pending < 504

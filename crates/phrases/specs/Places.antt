@@ -12,20 +12,13 @@ pub record Passes (p : ℕ → Bool) (text : List ℕ) (at q : ℕ) : Type 0 whe
   pub each : (i : ℕ) → at ≤ i → i < q → p (byte_at text i) ≡ true
   pub ends : q < length text → p (byte_at text q) ≡ false
 
--- gaps from `at` to q
-pub record Gaps (text : List ℕ) (at q : ℕ) : Type 0 where
-  pub forward : at ≤ q
-  pub inside : q ≤ length text
-  pub gaps : (i : ℕ) → at ≤ i → i < q → is_gap (byte_at text i) ≡ true
-
 -- no gap stands there
 abbrev pub NoGap : List ℕ → ℕ → Type 0
 NoGap text q = q < length text → is_gap (byte_at text q) ≡ false
 
 -- gaps from `at` to q, and none at q
-pub record Skips (text : List ℕ) (at q : ℕ) : Type 0 where
-  pub over : Gaps text at q
-  pub ends : NoGap text q
+abbrev pub Skips : List ℕ → ℕ → ℕ → Type 0
+Skips = Passes is_gap
 
 -- this byte stands there
 abbrev pub is_at : List ℕ → ℕ → ℕ → Bool

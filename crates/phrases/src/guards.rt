@@ -1,26 +1,28 @@
 // Guards: operands joined by operators, the stronger ones first, down to brackets, inside which stands a whole guard again.
-ghost use Rattle.std.specs.Prelude.{◌≡◌, true, false, suc, ◌+◌, ◌*◌, ◌≤◌, ◌<◌, length, MatchOption, MatchResult};
-ghost use Rattle.texts.specs.Putting.{Puts};
+ghost use Rattle.std.specs.Prelude.{◌≡◌, ◌≤◌, true, false, suc, MatchOption, MatchResult};
 ghost use Rattle.grammar.specs.Items.{SIGN, mark_byte};
 ghost use Rattle.grammar.specs.Guards.{strength};
 ghost use Rattle.grammar.specs.Records.{expression_record, op_of};
 ghost use Rattle.phrases.specs.Places.{is_at};
-ghost use Rattle.phrases.specs.Operators.{operator_of};
-ghost use Rattle.phrases.specs.Operands.{OperandHere, NoOperand};
+ghost use Rattle.phrases.specs.Operators.{operator_of, number_of};
+ghost use Rattle.phrases.specs.Operands.{OperandHere, NoOperand, operand_record};
 ghost use Rattle.phrases.specs.GuardsRead.{GuardAt, GuardAsked};
 
 use crate::items::{Stopped, is_at, skip};
-use texts::put_text;
+use crate::records::{Records, two_bytes};
 
-// The place after the guard, and the count of expressions then.
+// What stands around an operand: the variables that it may name, the brackets open, and the operators that wait for it.
 #[derive(Clone, Copy, Debug, PartialEq, Eq)]
-pub struct GuardEnd {
-    pub at: usize,
-    pub expressions: usize,
+struct Nesting {
+    k: usize,
+    depth: usize,
+    pending: usize,
+    ghost few_variables: { k ≤ 12 },
+    ghost opened: { depth ≤ 32 },
 }
 
 #[derive(Clone, Copy, Debug, PartialEq, Eq)]
-pub enum Operator {
+enum Operator {
     Or,
     Xor,
     And,
@@ -37,14 +39,13 @@ impl Operator {
         }
     }
 
-    // Its operation in a record.
-    fn operation(self) -> u8
-        ensures { result ≡ op_of (operator_of self) }
+    fn operation(self) -> Operation
+        ensures { number_of result ≡ op_of (operator_of self) }
     {
         match self {
-            Operator::Or => 5,
-            Operator::Xor => 6,
-            Operator::And => 4,
+            Operator::Or => Operation::Or,
+            Operator::Xor => Operation::Xor,
+            Operator::And => Operation::And,
         }
     }
 
@@ -59,40 +60,58 @@ impl Operator {
     }
 }
 
+// What an expression computes, by its number in the record.
 #[derive(Clone, Copy, Debug, PartialEq, Eq)]
-pub enum Operand {
-    Constant(u8),
+enum Operation {
+    False,
+    True,
+    Variable,
+    Not,
+    And,
+    Or,
+    Xor,
+}
+
+fn expression(operation: Operation, a: usize, b: usize) -> [u8; 8]
+    ensures { result ≡ expression_record (number_of operation) a b }
+{
+    let [a0, a1] = two_bytes(a);
+    let [b0, b1] = two_bytes(b);
+    [operation as u8, 0, a0, a1, b0, b1, 0, 0]
+}
+
+#[derive(Clone, Copy, Debug, PartialEq, Eq)]
+enum Operand {
+    False,
+    True,
     Variable(u8),
 }
 
-const EXPRESSIONS: usize = 504;
+impl Operand {
+    fn expression(self) -> [u8; 8]
+        ensures { result ≡ operand_record self }
+    {
+        match self {
+            Operand::False => expression(Operation::False, 0, 0),
+            Operand::True => expression(Operation::True, 0, 0),
+            Operand::Variable(v) => expression(Operation::Variable, usize::from(v), 0),
+        }
+    }
+}
 
 const DEPTH: usize = 32;
 
-// Expression e: its operation and operands.
-fn put_expression(es: &mut [u8], e: usize, op: u8, a: usize, b: usize)
-    requires { 8 * e + 8 ≤ length es.old }
-    ensures { Puts (expression_record op a b) (8 * e) es.old es.new (8 * e + 8) }
+// A whole guard: the place after it, its records pushed.
+pub fn guard(text: &[u8], at: usize, k: usize, es: &mut Records) -> Result<usize, Stopped>
+    requires { GuardAsked 0 at text.now es.old × (k ≤ 12) }
+    ensures { GuardAt 1 k 0 0 at text.now es.old es.new result }
 {
-    let record = [
-        op,
-        0,
-        (a % 256) as u8,
-        (a / 256 % 256) as u8,
-        (b % 256) as u8,
-        (b / 256 % 256) as u8,
-        0,
-        0,
-    ];
-    put_text(&record, es, 8 * e);
-}
-
-// A whole guard.
-pub fn guard(text: &[u8], at: usize, k: usize, e: usize, es: &mut [u8]) -> Result<GuardEnd, Stopped>
-    requires { GuardAsked k 0 e 0 at text.now es.old }
-    ensures { GuardAt 1 k 0 e 0 at text.now es.old es.new result }
-{
-    joined(text, at, k, 0, e, 0, es, Operator::Or)
+    let outermost = Nesting {
+        k,
+        depth: 0,
+        pending: 0,
+    };
+    joined(text, at, outermost, es, Operator::Or)
 }
 
 // side (operator side)*
@@ -100,45 +119,30 @@ pub fn guard(text: &[u8], at: usize, k: usize, e: usize, es: &mut [u8]) -> Resul
 fn joined(
     text: &[u8],
     at: usize,
-    k: usize,
-    depth: usize,
-    e: usize,
-    pending: usize,
-    es: &mut [u8],
+    around: Nesting,
+    es: &mut Records,
     operator: Operator,
-) -> Result<GuardEnd, Stopped>
-    requires { GuardAsked k depth e pending at text.now es.old }
-    ensures { GuardAt (strength (operator_of operator)) k depth e pending at text.now es.old es.new result }
+) -> Result<usize, Stopped>
+    requires { GuardAsked around.pending at text.now es.old }
+    ensures { GuardAt (strength (operator_of operator)) around.k around.depth around.pending at text.now es.old es.new result }
 {
-    let mut left = side(text, at, k, depth, e, pending, es, operator)?;
-    while is_at(text, left.at, operator.sign()) {
-        if left.expressions + pending + 2 > EXPRESSIONS {
-            return Err(Stopped { at: left.at });
+    let mut end = side(text, at, around, es, operator)?;
+    while is_at(text, end, operator.sign()) {
+        if !es.has_room(around.pending + 2) {
+            return Err(Stopped { at: end });
         }
-        let from = skip(text, left.at + 1);
-        let right = side(
-            text,
-            from,
-            k,
-            depth,
-            left.expressions,
-            pending + 1,
-            es,
-            operator,
-        )?;
-        put_expression(
-            es,
-            right.expressions,
-            operator.operation(),
-            left.expressions - 1,
-            right.expressions - 1,
-        );
-        left = GuardEnd {
-            at: right.at,
-            expressions: right.expressions + 1,
+        let left = es.count() - 1;
+        let waiting = Nesting {
+            k: around.k,
+            depth: around.depth,
+            pending: around.pending + 1,
         };
+        let next = side(text, skip(text, end + 1), waiting, es, operator)?;
+        let right = es.count() - 1;
+        es.push(expression(operator.operation(), left, right));
+        end = next;
     }
-    Ok(left)
+    Ok(end)
 }
 
 // What the operator joins: what the next stronger one has joined, or a single operand.
@@ -146,119 +150,81 @@ fn joined(
 fn side(
     text: &[u8],
     at: usize,
-    k: usize,
-    depth: usize,
-    e: usize,
-    pending: usize,
-    es: &mut [u8],
+    around: Nesting,
+    es: &mut Records,
     operator: Operator,
-) -> Result<GuardEnd, Stopped>
-    requires { GuardAsked k depth e pending at text.now es.old }
-    ensures { GuardAt (suc (strength (operator_of operator))) k depth e pending at text.now es.old es.new result }
+) -> Result<usize, Stopped>
+    requires { GuardAsked around.pending at text.now es.old }
+    ensures { GuardAt (suc (strength (operator_of operator))) around.k around.depth around.pending at text.now es.old es.new result }
 {
     match operator.next_stronger() {
-        Some(stronger) => joined(text, at, k, depth, e, pending, es, stronger),
-        None => single(text, at, k, depth, e, pending, es),
+        Some(stronger) => joined(text, at, around, es, stronger),
+        None => single(text, at, around, es),
     }
 }
 
 // '!' and what it negates, a group in brackets, a variable or a constant
 #[cycle(levels)]
-fn single(
-    text: &[u8],
-    at: usize,
-    k: usize,
-    depth: usize,
-    e: usize,
-    pending: usize,
-    es: &mut [u8],
-) -> Result<GuardEnd, Stopped>
-    requires { GuardAsked k depth e pending at text.now es.old }
-    ensures { GuardAt 4 k depth e pending at text.now es.old es.new result }
+fn single(text: &[u8], at: usize, around: Nesting, es: &mut Records) -> Result<usize, Stopped>
+    requires { GuardAsked around.pending at text.now es.old }
+    ensures { GuardAt 4 around.k around.depth around.pending at text.now es.old es.new result }
 {
-    if is_at(text, at, b'!') {
-        return negated(text, at, k, depth, e, pending, es);
+    match text.get(at) {
+        Some(b'!') => negated(text, at, around, es),
+        Some(b'(') => grouped(text, at, around, es),
+        _ => plain(text, at, around, es),
     }
-    if is_at(text, at, b'(') {
-        return grouped(text, at, k, depth, e, pending, es);
-    }
-    plain(text, at, k, depth, e, pending, es)
 }
 
 // '!' stands at this place.
 #[cycle(levels)]
-fn negated(
-    text: &[u8],
-    at: usize,
-    k: usize,
-    depth: usize,
-    e: usize,
-    pending: usize,
-    es: &mut [u8],
-) -> Result<GuardEnd, Stopped>
-    requires { GuardAsked k depth e pending at text.now es.old × (is_at text.now at 33 ≡ true) }
-    ensures { GuardAt 4 k depth e pending at text.now es.old es.new result }
+fn negated(text: &[u8], at: usize, around: Nesting, es: &mut Records) -> Result<usize, Stopped>
+    requires { GuardAsked around.pending at text.now es.old × (is_at text.now at 33 ≡ true) }
+    ensures { GuardAt 4 around.k around.depth around.pending at text.now es.old es.new result }
 {
-    if e + pending + 2 > EXPRESSIONS {
+    if !es.has_room(around.pending + 2) {
         return Err(Stopped { at });
     }
-    let inner = single(text, skip(text, at + 1), k, depth, e, pending + 1, es)?;
-    put_expression(es, inner.expressions, 3, inner.expressions - 1, 0);
-    Ok(GuardEnd {
-        at: inner.at,
-        expressions: inner.expressions + 1,
-    })
+    let waiting = Nesting {
+        k: around.k,
+        depth: around.depth,
+        pending: around.pending + 1,
+    };
+    let end = single(text, skip(text, at + 1), waiting, es)?;
+    let inner = es.count() - 1;
+    es.push(expression(Operation::Not, inner, 0));
+    Ok(end)
 }
 
 // '(' stands at this place.
 #[cycle(levels)]
-fn grouped(
-    text: &[u8],
-    at: usize,
-    k: usize,
-    depth: usize,
-    e: usize,
-    pending: usize,
-    es: &mut [u8],
-) -> Result<GuardEnd, Stopped>
-    requires { GuardAsked k depth e pending at text.now es.old × (is_at text.now at 40 ≡ true) }
-    ensures { GuardAt 4 k depth e pending at text.now es.old es.new result }
+fn grouped(text: &[u8], at: usize, around: Nesting, es: &mut Records) -> Result<usize, Stopped>
+    requires { GuardAsked around.pending at text.now es.old × (is_at text.now at 40 ≡ true) }
+    ensures { GuardAt 4 around.k around.depth around.pending at text.now es.old es.new result }
 {
-    if depth >= DEPTH {
+    if around.depth >= DEPTH {
         return Err(Stopped { at });
     }
-    let from = skip(text, at + 1);
-    let inner = joined(text, from, k, depth + 1, e, pending, es, Operator::Or)?;
-    if !is_at(text, inner.at, b')') {
-        return Err(Stopped { at: inner.at });
+    let inside = Nesting {
+        k: around.k,
+        depth: around.depth + 1,
+        pending: around.pending,
+    };
+    let end = joined(text, skip(text, at + 1), inside, es, Operator::Or)?;
+    if !is_at(text, end, b')') {
+        return Err(Stopped { at: end });
     }
-    Ok(GuardEnd {
-        at: skip(text, inner.at + 1),
-        expressions: inner.expressions,
-    })
+    Ok(skip(text, end + 1))
 }
 
 // A variable or a constant, if one stands here.
-fn plain(
-    text: &[u8],
-    at: usize,
-    k: usize,
-    depth: usize,
-    e: usize,
-    pending: usize,
-    es: &mut [u8],
-) -> Result<GuardEnd, Stopped>
-    requires { GuardAsked k depth e pending at text.now es.old × (is_at text.now at 33 ≡ false) × (is_at text.now at 40 ≡ false) }
-    ensures { GuardAt 4 k depth e pending at text.now es.old es.new result }
+fn plain(text: &[u8], at: usize, around: Nesting, es: &mut Records) -> Result<usize, Stopped>
+    requires { GuardAsked around.pending at text.now es.old × (is_at text.now at 33 ≡ false) × (is_at text.now at 40 ≡ false) }
+    ensures { GuardAt 4 around.k around.depth around.pending at text.now es.old es.new result }
 {
-    match operand_at(text, at, k)? {
-        Operand::Constant(v) => put_expression(es, e, v, 0, 0),
-        Operand::Variable(v) => put_expression(es, e, 2, usize::from(v), 0),
-    }
-    Ok(GuardEnd {
-        at: skip(text, at + 1),
-        expressions: e + 1,
-    })
+    let operand = operand_at(text, at, around.k)?;
+    es.push(operand.expression());
+    Ok(skip(text, at + 1))
 }
 
 // The variable below k or the constant that stands here.
@@ -266,8 +232,8 @@ fn operand_at(text: &[u8], at: usize, k: usize) -> Result<Operand, Stopped>
     ensures { MatchResult result (OperandHere k text.now at) (λ s. (s.at ≡ at) × NoOperand k text.now at) }
 {
     match text.get(at) {
-        Some(b'0') => Ok(Operand::Constant(0)),
-        Some(b'1') => Ok(Operand::Constant(1)),
+        Some(b'0') => Ok(Operand::False),
+        Some(b'1') => Ok(Operand::True),
         Some(b) if *b >= b'a' && usize::from(*b - b'a') < k => Ok(Operand::Variable(*b - b'a')),
         _ => Err(Stopped { at }),
     }

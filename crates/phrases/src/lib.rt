@@ -3,3 +3,4 @@
 
 pub mod guards;
 pub mod items;
+pub mod records;

@@ -38,7 +38,7 @@ module _ (job : List ℕ) where
 
   row_cut : (x t room : ℕ) → row_answer job x t room
       ≡ in_order refused (check_stages job) (in_order refused (whole 11 (ltb x (2 ^ (header_sizes job).k)) ∷ [])
-        (in_order refused (whole 12 (leb t 255) ∷ whole 13 (leb (header_sizes job).n room) ∷ whole 14 (each (row_clear (job_in job) x) (suc t)) ∷ []) (written (header_sizes job).n)))
+      (in_order refused (whole 12 (leb t 255) ∷ whole 13 (leb (header_sizes job).n room) ∷ whole 14 (each (row_clear (job_in job) x) (suc t)) ∷ []) (written (header_sizes job).n)))
   unfolding row_answer
   row_cut x t room = in_order_append refused (case_stages job x) _ _ ∙ in_order_append refused (check_stages job) _ _
 

@@ -1,6 +1,6 @@
 -- Row after row.
 -- Assumes nothing.
-use Rattle.std.proofs.Common.{◌≡◌, ◌+◌, suc, sym, ◌∙◌, add-one, arith}
+use Rattle.std.proofs.Common.{◌≡◌, ◌+◌, suc, arith}
 use Rattle.cases.proofs.AnswerLaws.{last_small, Searched, Come, come_more, searched_none, searched_judged, searched_stays, searched_found, empty_is, answer_is}
 use Rattle.cases.proofs.case_answer.Goals as goal
 use Rattle.cases.proofs.case_answer.Goals.{Joined-answer, in-Passes, in_default-answer}

@@ -1,7 +1,7 @@
 -- Row after row.
 -- Assumes nothing.
-use Rattle.std.proofs.Common.{◌≡◌, ◌+◌, suc, sym, refl, ◌∙◌, add-one, arith}
-use Rattle.cases.proofs.AnswerLaws.{last_small, Come, come_more, rows_none, rows_clear, rows_collide, shown}
+use Rattle.std.proofs.Common.{◌≡◌, ◌+◌, sym, ◌∙◌, add-one, arith}
+use Rattle.cases.proofs.AnswerLaws.{Come, come_more, rows_none, rows_clear, rows_collide, shown}
 use Rattle.cases.proofs.case_row.Goals as goal
 use Rattle.cases.proofs.case_row.Goals.{After-is_some, else-loop-test, then-loop-test+else-is_some+else-counter-time}
 

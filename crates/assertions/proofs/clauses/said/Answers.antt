@@ -40,3 +40,7 @@ pub returns : goal.returns
 unfolding letters
 returns c =
     record { says = told_all c.skip.ensures c.in_ok-node.ensures.says.1 (c.in_ok-value.ensures.counted IS refl).says (c.in_ok-time.ensures.counted AT refl).says c.skip-end.ensures (stands c.is_at.ensures c.if-not-is_at.false) }
+
+pub invariant_of-result : goal.invariant_of-result
+unfolding letters
+invariant_of-result c = record { binary = (c.in_ok-value.ensures.counted IS refl).says.0 }

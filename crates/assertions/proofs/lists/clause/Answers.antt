@@ -5,7 +5,7 @@ use Rattle.grammar.specs.Items.{letters}
 use Rattle.grammar.proofs.Frames.{size_some}
 use Rattle.phrases.proofs.Exits.{left_with}
 use Rattle.phrases.proofs.Standing.{stands, stands_not}
-use Rattle.assertions.proofs.ClauseRuns.{when_none, when_to, when_then_none, asked_after_when, touched_none, guard_none, colon_none, rest_none, rest_to}
+use Rattle.assertions.proofs.ClauseRuns.{when_none, when_to, when_then_none, touched_none, guard_none, colon_none, rest_none, rest_to}
 use Rattle.assertions.proofs.lists.clause.Goals as goal
 
 pub returns-in_err-end : goal.returns-in_err-end
@@ -16,33 +16,33 @@ pub returns-then-touches : goal.returns-then-touches
 unfolding letters
 returns-then-touches c =
     let w = c.in_ok-end.ensures.says in
-    record { says = when_then_none c.requires.0 w (touched_none (asked_after_when c.requires.0 w) c.skip-from.ensures c.touches.ensures c.if-touches.true) }
+    record { says = when_then_none c.requires.0 w (touched_none c.skip-from.ensures c.touches.ensures c.if-touches.true) }
 
-pub returns-in_err-guard : goal.returns-in_err-guard
+pub returns-in_err-colon : goal.returns-in_err-colon
 unfolding letters
-returns-in_err-guard c =
+returns-in_err-colon c =
     let w = c.in_ok-end.ensures.says in
-    rw (left_with c.from_residual-in_err-guard.result c.from_residual-in_err-guard.ensures.1)
-    (record { says = when_then_none c.requires.0 w (guard_none (asked_after_when c.requires.0 w) c.skip-from.ensures c.touches.ensures c.if-touches.false c.in_err-guard.ensures.says) })
+    rw (left_with c.from_residual-in_err-colon.result c.from_residual-in_err-colon.ensures.1)
+    (record { says = when_then_none c.requires.0 w (guard_none c.skip-from.ensures c.touches.ensures c.if-touches.false c.in_err-colon.ensures.says) })
 
 pub returns-then-not-is_at : goal.returns-then-not-is_at
 unfolding letters
 returns-then-not-is_at c =
     let w = c.in_ok-end.ensures.says in
-    record { says = when_then_none c.requires.0 w (colon_none (asked_after_when c.requires.0 w) c.skip-from.ensures c.touches.ensures c.if-touches.false c.in_ok-guard.ensures.says (stands_not c.is_at.ensures c.if-not-is_at.true)) }
+    record { says = when_then_none c.requires.0 w (colon_none c.skip-from.ensures c.touches.ensures c.if-touches.false c.in_ok-colon.ensures.says (stands_not c.is_at.ensures c.if-not-is_at.true)) }
 
 pub returns-in_err-told : goal.returns-in_err-told
 unfolding letters
 returns-in_err-told c =
     let w = c.in_ok-end.ensures.says in
     rw (left_with c.from_residual-in_err-told.result c.from_residual-in_err-told.ensures.1)
-    (record { says = when_then_none c.requires.0 w (rest_none (asked_after_when c.requires.0 w) c.skip-from.ensures c.touches.ensures c.if-touches.false c.in_ok-guard.ensures.says (stands c.is_at.ensures c.if-not-is_at.false) c.in_err-told.ensures.says) })
+    (record { says = when_then_none c.requires.0 w (rest_none c.skip-from.ensures c.touches.ensures c.if-touches.false c.in_ok-colon.ensures.says (stands c.is_at.ensures c.if-not-is_at.false) c.in_err-told.ensures.says) })
 
 pub overflow_sub-guard : goal.overflow_sub-guard
-overflow_sub-guard c = omega (arith, c.in_ok-guard.ensures.says.count, size_some c.in_ok-guard.ensures.says.guard)
+overflow_sub-guard c = omega (arith, c.count-guard.ensures, c.in_ok-colon.ensures.says.count, size_some c.in_ok-colon.ensures.says.guard)
 
 pub returns : goal.returns
 unfolding letters
 returns c =
     let w = c.in_ok-end.ensures.says in
-    record { says = when_to c.requires.0 w (rest_to (asked_after_when c.requires.0 w) c.skip-from.ensures c.touches.ensures c.if-touches.false c.in_ok-guard.ensures.says (stands c.is_at.ensures c.if-not-is_at.false) c.in_ok-told.ensures.says c.put_clause.ensures) }
+    record { says = when_to c.requires.0 w (rest_to c.skip-from.ensures c.touches.ensures c.if-touches.false c.in_ok-colon.ensures.says (stands c.is_at.ensures c.if-not-is_at.false) _ c.in_ok-told.ensures.says (omega (arith, c.count-guard.ensures, c.in_ok-colon.ensures.says.count, size_some c.in_ok-colon.ensures.says.guard)) (rw c.clause_record.ensures at c.push.ensures)) }

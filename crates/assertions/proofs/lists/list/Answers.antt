@@ -1,20 +1,18 @@
 -- `list`: the clauses before the place.
 -- Assumes nothing.
-use Rattle.phrases.proofs.Exits.{left_with}
+use Rattle.phrases.proofs.Exits.{left_with, test_false}
 use Rattle.phrases.proofs.Standing.{stands}
-use Rattle.assertions.proofs.ListRuns.{list_none, list_more, list_stops, list_full, list_asked}
+use Rattle.assertions.proofs.ListRuns.{list_none, list_more, list_stops, list_full}
 use Rattle.assertions.proofs.lists.list.Goals as goal
 
-pub loop-side-init : goal.loop-side-init
-loop-side-init c = list_none _ c.skip.ensures c.requires.3 c.requires.4 c.requires.5 c.requires.6
+pub loop-limits-init : goal.loop-limits-init
+loop-limits-init c = list_none _ c.skip-q.ensures
 
-pub returns-then-full : goal.returns-then-full
-returns-then-full c = record { says = list_full c.loop-side.invariant (stands c.is_at.ensures c.loop-side-test.true) c.full.ensures c.if-full.true }
+pub returns-then-not-has_room : goal.returns-then-not-has_room
+returns-then-not-has_room c = record { says = list_full c.loop-limits.invariant (stands c.is_at.ensures c.loop-limits-test.true) (test_false c.has_room.ensures c.if-not-has_room.true) }
 
-pub returns-in_err-next : goal.returns-in_err-next
-returns-in_err-next c = rw (left_with c.from_residual.result c.from_residual.ensures.1) (record { says = list_stops c.loop-side.invariant c.in_err-next.ensures.says })
+pub returns-in_err-end : goal.returns-in_err-end
+returns-in_err-end c = rw (left_with c.from_residual.result c.from_residual.ensures.1) (record { says = list_stops c.loop-limits.invariant c.in_err-end.ensures.says })
 
-pub loop-side-preserved : goal.loop-side-preserved
-loop-side-preserved c =
-    list_more c.loop-side.invariant c.in_ok-next.ensures.says c.skip-in-loop-side.ensures
-    (list_asked c.loop-side.invariant c.requires.1 c.requires.2 c.requires.5 c.requires.6 c.full.ensures c.if-full.false).room_c
+pub loop-limits-preserved : goal.loop-limits-preserved
+loop-limits-preserved c = list_more c.loop-limits.invariant c.in_ok-end.ensures.says c.skip-q-in-loop-limits.ensures

@@ -6,8 +6,8 @@ use Rattle.assertions.specs.Sides.{side_of}
 use Rattle.assertions.specs.ListsRead.{ListTo}
 use Rattle.assertions.proofs.lists.list.Given as goal
 
-abbrev pub invariant-loop-side : goal.invariant-loop-side
-invariant-loop-side l = ListTo l.k l.n (side_of l.side) l.e l.c l.at l.text l.initial.es l.es l.initial.cs l.cs l.end.at l.end.expressions l.end.clauses
+abbrev pub invariant-loop-limits : goal.invariant-loop-limits
+invariant-loop-limits l = ListTo l.limits.k l.limits.n (side_of l.side) l.at l.text l.initial.records.expressions l.records.expressions l.initial.records.clauses l.records.clauses l.q
 
-abbrev pub decreases-loop-side : goal.decreases-loop-side
-decreases-loop-side l = length l.text - l.end.at
+abbrev pub decreases-loop-limits : goal.decreases-loop-limits
+decreases-loop-limits l = length l.text - l.q

@@ -13,16 +13,16 @@ pub returns-then-touches : goal.returns-then-touches
 unfolding letters
 returns-then-touches c = record { says = rest_touched c.in_ok-end.ensures.says c.skip-from.ensures c.touches.ensures c.if-touches.true }
 
-pub returns-in_err-list : goal.returns-in_err-list
+pub returns-in_err-over : goal.returns-in_err-over
 unfolding letters
-returns-in_err-list c =
-    rw (left_with c.from_residual-in_err-list.result c.from_residual-in_err-list.ensures.1)
-    (record { says = rest_fails c.in_ok-end.ensures.says c.skip-from.ensures c.touches.ensures c.if-touches.false c.in_err-list.ensures.says })
+returns-in_err-over c =
+    rw (left_with c.from_residual-in_err-over.result c.from_residual-in_err-over.ensures.1)
+    (record { says = rest_fails c.in_ok-end.ensures.says c.skip-from.ensures c.touches.ensures c.if-touches.false c.in_err-over.ensures.says })
 
-pub returns-then-list-text : goal.returns-then-list-text
+pub returns-then-over-text : goal.returns-then-over-text
 unfolding letters
-returns-then-list-text c = record { says = rest_open c.in_ok-end.ensures.says c.skip-from.ensures c.touches.ensures c.if-touches.false c.in_ok-list.ensures.says c.if-list-text.true }
+returns-then-over-text c = record { says = rest_open c.in_ok-end.ensures.says c.skip-from.ensures c.touches.ensures c.if-touches.false c.in_ok-over.ensures.says c.if-over-text.true }
 
 pub returns : goal.returns
 unfolding letters
-returns c = record { says = rest_ends c.in_ok-end.ensures.says c.skip-from.ensures c.touches.ensures c.if-touches.false c.in_ok-list.ensures.says c.if-list-text.false }
+returns c = record { says = rest_ends c.in_ok-end.ensures.says c.skip-from.ensures c.touches.ensures c.if-touches.false c.in_ok-over.ensures.says c.if-over-text.false }

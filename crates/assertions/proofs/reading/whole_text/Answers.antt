@@ -13,12 +13,12 @@ pub returns-then-from-end : goal.returns-then-from-end
 unfolding letters
 returns-then-from-end c = record { says = given_close c.skip.ensures c.in_ok-end.ensures.says c.skip-from.ensures c.if-from-end.true }
 
-pub returns-in_err-given : goal.returns-in_err-given
+pub returns-in_err-over : goal.returns-in_err-over
 unfolding letters
-returns-in_err-given c =
-    rw (left_with c.from_residual-in_err-given.result c.from_residual-in_err-given.ensures.1)
-    (record { says = given_fails c.skip.ensures c.in_ok-end.ensures.says c.skip-from.ensures c.if-from-end.false c.in_err-given.ensures.says })
+returns-in_err-over c =
+    rw (left_with c.from_residual-in_err-over.result c.from_residual-in_err-over.ensures.1)
+    (record { says = given_fails c.skip.ensures c.in_ok-end.ensures.says c.skip-from.ensures c.if-from-end.false c.requires.0 c.requires.1 c.in_err-over.ensures.says })
 
 pub returns : goal.returns
 unfolding letters
-returns c = text_at c.skip.ensures c.in_ok-end.ensures.says c.skip-from.ensures c.if-from-end.false c.in_ok-given.ensures.says c.expected.ensures
+returns c = text_at c.skip.ensures c.in_ok-end.ensures.says c.skip-from.ensures c.if-from-end.false c.requires.0 c.requires.1 c.in_ok-over.ensures.says c.expected.ensures

@@ -1,6 +1,6 @@
 -- The node at m is written, and those before stay.
 -- Assumes nothing.
-use Rattle.std.proofs.Common.{◌≢◌, ◌<◌, length, length-set, get_or-set_other, get_or-set_same, below_more, arith, rules}
+use Rattle.std.proofs.Common.{◌≢◌, ◌<◌, length, length-set, get_or-set_other, get_or-set_same, below_more, arith}
 use Rattle.std.proofs.lemmas.List.{get_or-take, length-take-le}
 use Rattle.cases.proofs.rows.forced_row.Goals as goal
 

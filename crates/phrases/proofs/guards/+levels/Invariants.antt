@@ -21,8 +21,8 @@ decreases-negated l = (length l.text.now - l.at) * 8
 abbrev pub decreases-grouped : goal.decreases-grouped
 decreases-grouped l = (length l.text.now - l.at) * 8
 
-abbrev pub invariant-joined-loop-operator : goal.invariant-joined-loop-operator
-invariant-joined-loop-operator l = let o = operator_of l.operator in GuardTo (strength o) (suc (strength o)) l.k l.depth l.e l.pending l.at l.text l.fn.es l.es l.left.at l.left.expressions
+abbrev pub invariant-joined-loop-around : goal.invariant-joined-loop-around
+invariant-joined-loop-around l = let o = operator_of l.operator in GuardTo (strength o) (suc (strength o)) l.around.k l.around.depth l.around.pending l.at l.text l.fn.es l.es l.end
 
-abbrev pub decreases-joined-loop-operator : goal.decreases-joined-loop-operator
-decreases-joined-loop-operator l = length l.text - l.left.at
+abbrev pub decreases-joined-loop-around : goal.decreases-joined-loop-around
+decreases-joined-loop-around l = length l.text - l.end

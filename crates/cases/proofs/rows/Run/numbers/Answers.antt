@@ -1,6 +1,6 @@
 -- Each cell's number.
 -- Assumes nothing.
-use Rattle.std.proofs.Common.{None, rules}
+use Rattle.std.proofs.Common.{None}
 use Rattle.cases.proofs.rows.Run.numbers.Goals as goal
 
 pub returns : goal.returns

@@ -4,7 +4,8 @@ use Rattle.std.proofs.Common.{◌≡◌, ℕ, ◌<◌, length}
 use Rattle.std.specs.List.{fold}
 use Rattle.decoded.specs.Meant.{job_in}
 use Rattle.cases.specs.Cells.{cell_in}
-use Rattle.cases.proofs.WalkLaws.{left, Walking, joined_by}
+use Rattle.decoded.proofs.WalkLaws.{left, Walking}
+use Rattle.cases.proofs.WalkLaws.{joined_by}
 use Rattle.cases.proofs.rows.Run.stimulate.Given as goal
 
 abbrev pub invariant-loop-clause : goal.invariant-loop-clause

@@ -2,36 +2,36 @@
 -- Assumes nothing.
 use Rattle.std.proofs.Common.{◌∙◌, ◌<◌, length, arith}
 use lib.ListN.{length-set}
-use Rattle.groups.proofs.Timed.{walked_more, walked_timely, walked_all}
+use Rattle.decoded.proofs.WalkLaws.{walk_more, walk_timely, walk_end}
 use Rattle.groups.proofs.SteadyLaws.{renewed_none, renewed_more, renewed_all}
 use Rattle.groups.proofs.group.Group.renew.Goals as goal
 
 pub loop-clause-init : goal.loop-clause-init
 loop-clause-init c =
-    (tt, tt, record { split = rw c.into_iter-clause-iterator.ensures.into_iter_gives c.clauses_at-clause-items.ensures }, c.told-row, renewed_none _ _ (c.requires.steady_but (omega arith)))
+    (tt, tt, record { is = rw c.into_iter-clause-iterator.ensures.into_iter_gives c.clauses_at-clause-items.ensures }, c.told-row, renewed_none _ _ (c.requires.steady_but (omega arith)))
 
 pub bounds-steady-node : goal.bounds-steady-node
 bounds-steady-node c =
-    let k = walked_timely _ _ c.loop-clause.invariant.2 c.in-Some.ensures.steps in
+    let k = walk_timely c.loop-clause.invariant.2 c.in-Some.ensures.steps in
     omega (arith, k.within.node, c.from-node.ensures, c.args.self.now.gates.now.plan.now.decoded.n_most)
 
 pub bounds-row-node : goal.bounds-row-node
 bounds-row-node c =
-    let k = walked_timely _ _ c.loop-clause.invariant.2 c.in-Some.ensures.steps in
+    let k = walk_timely c.loop-clause.invariant.2 c.in-Some.ensures.steps in
     omega (arith, k.within.node, c.from-node.ensures, c.args.self.now.gates.now.plan.now.decoded.n_most)
 
 pub loop-clause-preserved : goal.loop-clause-preserved
 loop-clause-preserved c =
     let s = c.args.self.now in
-    let k = walked_timely _ _ c.loop-clause.invariant.2 c.in-Some.ensures.steps in
+    let k = walk_timely c.loop-clause.invariant.2 c.in-Some.ensures.steps in
     let room : c.in-Some.clause.node < length c.loop-clause.row = omega (arith, k.within.node, c.loop-clause.invariant.3, s.gates.now.plan.now.decoded.n_most) in
     rw c.from-node.ensures (
       tt,
       tt,
-      walked_more _ _ c.loop-clause.invariant.2 c.in-Some.ensures.steps,
+      walk_more c.loop-clause.invariant.2 c.in-Some.ensures.steps,
       length-set c.loop-clause.row _ _ ∙ c.loop-clause.invariant.3,
       renewed_more _ _ c.in-Some.clause room s.gates.now.is_steady c.loop-clause.invariant.4,
     )
 
 pub returns : goal.returns
-returns c = renewed_all _ _ (rw (walked_all _ _ c.loop-clause.invariant.2 c.in-None.ensures.steps.0) at c.loop-clause.invariant.4)
+returns c = renewed_all _ _ (rw (walk_end c.loop-clause.invariant.2 c.in-None.ensures.steps.0) at c.loop-clause.invariant.4)

@@ -2,7 +2,7 @@
 -- Assumes nothing.
 use Rattle.std.proofs.Common.{◌≡◌, length}
 use Rattle.groups.specs.Grouped.{job_of, clauses_at}
-use Rattle.groups.proofs.Timed.{rest, Walked}
+use Rattle.decoded.proofs.WalkLaws.{left, Walking}
 use Rattle.groups.proofs.SteadyLaws.{Renewed}
 use Rattle.groups.proofs.group.Group.renew.Given as goal
 
@@ -11,6 +11,6 @@ invariant-loop-clause l =
     let walk = l.clause-iterator in
     ((goal.iterator-loop-clause).can_next walk)
     × ((goal.iterator-loop-clause).is_finite walk)
-    × Walked l.self.gates.now.plan.now l.t l.yielded (rest walk)
+    × Walking l.self.gates.now.plan.now l.t l.yielded (left walk)
     × (length l.row ≡ 1008)
     × Renewed (job_of l.self) (clauses_at l.self l.t) l.yielded l.row
