@@ -5,7 +5,7 @@ use borrow.Author.Tests.{ltb-true, leb-true, eqb-true, lt-ltb, le-ltb, le-leb, l
 use lib.Dec.{T, eqb, ltb, leb}
 use mathlib.Core.Path.{◌≡◌, refl, sym, ◌∙◌}
 use mathlib.Core.Logic.{◌↔◌}
-use mathlib.Core.Bool.{Bool, true, false, not, ◌&&◌, ◌||◌, cond, true≢false}
+use mathlib.Core.Bool.{Bool, true, false, not, ◌&&◌, cond, true≢false}
 use Prim.Native.Nat.{ℕ, ◌≤◌, ◌<◌}
 use native.Mathlib.Decide.{dec_lt}
 use native.Mathlib.Omega.{arith}
@@ -93,30 +93,6 @@ module _ {x t : Bool} where
   test_passes b rest e f g = let w : x ≡ true = cc (not-false t f) in rw w g
 
 pub ruleset tests = (rules, refl, lt_fails, le_fails, eq_fails, lt_passes, le_passes, eq_passes, lt_last, le_last, eq_last, test_fails, test_passes)
-
--- a choice by one comparison, made by a branch. Each side is itself, or what a call read it into
-module _ {A : Type 0} {r : A} {x y v w : ℕ} (a b : A) (left : v ≡ x) (right : w ≡ y) where
-  pub choose_below : v < w → r ≡ a → r ≡ cond (ltb x y) a b
-  choose_below h e = rw (lt-ltb x y (omega arith)) e
-
-  pub choose_above : w ≤ v → r ≡ b → r ≡ cond (ltb x y) a b
-  choose_above h e = rw (le-ltb x y (omega arith)) e
-
-  pub choose_same : v ≡ w → r ≡ a → r ≡ cond (eqb x y) a b
-  choose_same h e = rw (eq-eqb x y (sym left ∙ h ∙ right)) e
-
-  pub choose_other : (v ≡ w → ⊥) → r ≡ b → r ≡ cond (eqb x y) a b
-  choose_other h e = rw (ne_eqb x y (λ q. h (left ∙ q ∙ sym right))) e
-
--- a test that makes up for another
-module _ {x y v w : ℕ} (rest : Bool) (left : v ≡ x) (right : w ≡ y) where
-  pub or_below : v < w → true ≡ ltb x y || rest
-  or_below h = rw (lt-ltb x y (omega arith))
-
-  pub or_above : w ≤ v → {b : Bool} → b ≡ rest → b ≡ ltb x y || rest
-  or_above h e = rw (le-ltb x y (omega arith)) e
-
-pub ruleset choices = (rules, refl, choose_below, choose_above, choose_same, choose_other)
 
 -- what a test that is true says
 pub lt_says : (x y : ℕ) → (ltb x y ≡ true) ↔ (x < y)

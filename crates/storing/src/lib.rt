@@ -34,7 +34,7 @@ impl Records<'_> {
     }
 
     // Byte `o` of the room for records in block `b`.
-    #[tactic(auto, using(crate::proofs::Digits::rooms))]
+    #[tactic(auto, using(crate::proofs::Rooms::rooms))]
     fn room_byte(&self, b: usize, o: usize) -> u8
         requires { (b < 65536) × (o < 504) }
         ensures { result ≡ plain_byte (records_in self.now) b (o + 4) }

@@ -4,15 +4,15 @@ use Rattle.std.proofs.Common.{◌≡◌, refl, sym, ◌∙◌, ap, subst, Bool, 
 use Rattle.std.specs.Int.{div_ceil}
 use Rattle.std.specs.Option.{option_or}
 use native.Mathlib.Decide.{dec_lt}
-use borrow.Author.Tests.{lt-ltb, le-ltb, ltb-true, not-true, not-false}
+use borrow.Author.Tests.{lt-ltb, le-ltb, ltb-true}
 use lib.Dec.{ltb}
 use lib.Pow.{pow-add, pow_mono}
 use Rattle.scans.specs.First.{first_bad}
 use Rattle.scans.proofs.Bools.{left_true, right_true}
 use Rattle.scans.proofs.Search.{clear_each, each_clear, stopped_at, at_stopped}
 use Rattle.meaning.specs.Guards.{bit_of}
-use Rattle.meaning.specs.Answers.{tally, least}
-use Rattle.meaning.proofs.Tallies.{tally_le, none_tally, some_tally, tally_same, tally_split, Least}
+use Rattle.meaning.specs.Answers.{tally}
+use Rattle.meaning.proofs.Tallies.{tally_le, none_tally, tally_same, tally_split, Least}
 use Rattle.words.specs.Places.{UsedPlaces}
 use Rattle.words.proofs.Bits.{bit_and_lem, zero_none}
 use Rattle.tallies.specs.declared.Found.{Found}
@@ -126,12 +126,3 @@ module _ (f : ℕ → Bool) where
   module _ {m : ℕ} {r : Found} (d : FoundIn f m r) where
     pub found_small : r.count ≤ m
     found_small = omega (arith, d.count_is, tally_le f m)
-
-    pub found_some : {x : ℕ} → r.least ≡ Some x → (0 < tally f m) × (x ≡ least f m)
-    unfolding least
-    found_some {x} e =
-        let s = stopped_at (λ x. not (f x)) m (sym d.least_is ∙ e) in
-        (some_tally f m x s.below (not-false (f x) s.fails), rw (← d.least_is, e))
-
-    pub found_nothing : r.least ≡ None → tally f m ≡ 0
-    found_nothing e = none_tally f m (λ i l. not-true (f i) (clear_each (λ x. not (f x)) m (sym d.least_is ∙ e) i l))

@@ -1,21 +1,8 @@
--- A byte of a number, and a byte of a block, taken by its place: the definitions go by the place's shape, the code by comparisons.
+-- A byte of a block, taken by its place: the definitions go by the place's shape, the code by comparisons.
 -- Assumes nothing.
-use Rattle.std.proofs.Common.{◌≡◌, ℕ, suc, ◌+◌, ◌*◌, ◌/◌, ◌%◌, ◌<◌, ◌≤◌, refl, arith}
-use Rattle.stored.specs.Bytes.{byte_at, digit}
+use Rattle.std.proofs.Common.{◌≡◌, ℕ, suc, ◌+◌, ◌*◌, ◌<◌, refl, arith}
+use Rattle.stored.specs.Bytes.{byte_at}
 use Rattle.stored.specs.Layout.{Records, sizes_of, first_expressions, first_clauses, by_kind, header_record, room_byte, plain_byte}
-
-module _ {i : ℕ} (v : ℕ) where
-  pub digit_0 : i < 1 → v % 256 ≡ digit v i
-  digit_0 h = let e : i ≡ 0 = omega arith in rw e
-
-  pub digit_1 : 1 ≤ i → i < 2 → v / 256 % 256 ≡ digit v i
-  digit_1 l h = let e : i ≡ 1 = omega arith in rw e
-
-  pub digit_2 : 2 ≤ i → i < 3 → v / 256 / 256 % 256 ≡ digit v i
-  digit_2 l h = let e : i ≡ 2 = omega arith in rw e
-
-  pub digit_3 : 3 ≤ i → i < 4 → v / 256 / 256 / 256 % 256 ≡ digit v i
-  digit_3 l h = let e : i ≡ 3 = omega arith in rw e
 
 -- the room's bytes come after the first four
 pub plain_room : (r : Records) (b o : ℕ) → plain_byte r b (o + 4)
