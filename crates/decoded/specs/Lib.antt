@@ -2,5 +2,3 @@ pub mod Chains
 pub mod Plans
 pub mod Walks
 pub mod Meant
-pub mod Records
-pub mod RecordLaws

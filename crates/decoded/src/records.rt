@@ -4,8 +4,8 @@ ghost use Rattle.scans.specs.Lists.{list_of};
 ghost use Rattle.stored.specs.Layout.{record_byte};
 ghost use Rattle.stored.specs.Decoding.{node_at, expression_at, clause_at};
 ghost use Rattle.meaning.specs.declared.Side.TheVariants.{Stimulus, Expectation};
-ghost use Rattle.decoded.specs.Records.{ByEightBytes};
-ghost use Rattle.decoded.specs.RecordLaws.{node_by_eight, expression_by_eight, clause_by_eight};
+ghost use Rattle.stored.specs.EightBytes.{ByEightBytes};
+ghost use Rattle.stored.proofs.EightBytes.{node_by_eight, expression_by_eight, clause_by_eight};
 
 use blocks::numbers::{byte_at, u16_at};
 use blocks::rules::Listed;

@@ -23,8 +23,8 @@ use Rattle.stored.proofs.Accepted.{accepted_sizes}
 use Rattle.stored.proofs.Promise.{Promise, accepted_promise}
 use Rattle.blocks.specs.Narrow.{Narrow}
 use Rattle.decoded.specs.declared.Plan.{Plan}
-use Rattle.decoded.specs.Records.{ByEightBytes}
-use Rattle.decoded.specs.RecordLaws.{node_by_eight, expression_by_eight, clause_by_eight}
+use Rattle.stored.specs.EightBytes.{ByEightBytes}
+use Rattle.stored.proofs.EightBytes.{node_by_eight, expression_by_eight, clause_by_eight}
 use Rattle.ready.specs.Readied.{Ready}
 use Rattle.decoded.specs.Plans.{no_node, no_clause, node_of, expression_of, clause_of, job_from, names_earlier, Decoded}
 

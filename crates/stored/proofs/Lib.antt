@@ -12,3 +12,4 @@ pub mod Promise
 pub mod RoundTrips
 pub mod Determined
 pub mod CheckedLaws
+pub mod EightBytes

@@ -5,6 +5,7 @@ pub mod Reasons
 pub mod Reading
 pub mod Packing
 pub mod Decoding
+pub mod EightBytes
 pub mod Broken
 pub mod Operations
 pub mod Checked

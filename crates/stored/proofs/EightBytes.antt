@@ -1,9 +1,9 @@
--- The three kinds of records keep it.
+-- What each of the three kinds of records says depends on its eight bytes alone.
 -- Assumes nothing.
 use Rattle.std.proofs.Common.{◌≡◌, refl, ◌∙◌, ap, List, ℕ, ◌+◌, ◌<◌, arith}
 use Rattle.stored.specs.Bytes.{byte_at, u16_at}
 use Rattle.stored.specs.Decoding.{node_at, expression_at, clause_at}
-use Rattle.decoded.specs.Records.{ByEightBytes}
+use Rattle.stored.specs.EightBytes.{ByEightBytes}
 
 module _ (s t : List ℕ) (a b : ℕ) (same : (f : ℕ) → f < 8 → byte_at s (a + f) ≡ byte_at t (b + f)) where
   code_same : byte_at s a ≡ byte_at t b
