@@ -1,4 +1,5 @@
-// The rules of the records, one function a line of the table, and the first record that breaks its own.
+// The rules of the records, one function a line of the table, and the first record that breaks its own. Codes are bytes here: one
+// that names no gate, op or side is what a rule refuses.
 ghost use Rattle.std.specs.Prelude.{◌≡◌, ◌+◌, ◌*◌, ◌^◌, ◌<◌};
 ghost use Rattle.std.specs.Option.{ForSome};
 ghost use Rattle.stored.specs.Rules.{operand_ok, node_ok, first_ok, second_ok, expression_ok, clause_ok};

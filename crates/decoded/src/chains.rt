@@ -6,7 +6,7 @@ ghost use Rattle.decoded.specs.Plans.{clause_of};
 
 use meaning::Clause;
 
-// Each time's first clause, and each clause's next of the same time; c stands for none.
+// Each time's first clause, and each clause's next of the same time; c, one past the last, stands for none.
 pub fn chained(clauses: &[Clause], c: usize) -> ([u16; 256], [u16; 504])
     requires bound { (c ≤ 504) × (c ≤ length clauses.now) }
     requires times { (i : ℕ) → i < c → (clause_of clauses.now i).time < 256 }

@@ -16,8 +16,9 @@ pub use crate::walk::ClausesAt;
 use meaning::{Clause, Expression, Node};
 use stored::Size;
 
-// What running a job looks at. The clauses of a time are a chain: its first is `heads` of the time, and each clause's next is
-// in `nexts`; c stands for none.
+// What running a job looks at, in arrays as long as a job's lists can be, since nothing is allocated: `size`, which callers ask
+// for too, says how far each is filled. The clauses of a time are a chain: its first is `heads` of the time, and each clause's
+// next is in `nexts`; c, one past the last, stands for none, and what is left of a walk is what stands from its place on.
 #[derive(Drop)]
 pub struct Plan {
     pub size: Size,

@@ -1,4 +1,5 @@
-// The clauses of one time in sixty-four cases.
+// The clauses of one time in sixty-four cases. A walk for each side: one for both would take a closure, and would have to say what
+// that leaves in the row.
 ghost use Rattle.std.specs.Prelude.{[], ◌∷◌, ◌<◌};
 ghost use Rattle.groups.specs.Grouped.{job_of, clauses_at, Within};
 ghost use Rattle.groups.specs.Held.{Stimulates, Expects};

@@ -10,7 +10,8 @@ use std::io;
 use std::io::{Read, Write};
 use std::rt::{Stderr, Stdin};
 
-// Reads until the buffer is full or the input ends, and answers how many bytes it read.
+// Reads until the buffer is full or the input ends, and answers how many bytes it read. The size is asked first: `while let` would
+// read once more into a full buffer.
 fn read_input(input: &mut Stdin, buffer: &mut [u8]) -> io::Result<usize>
     ensures { IfOk result (λ size. size ≤ length buffer.old) }
 {

@@ -91,7 +91,7 @@ pub struct Clause {
     pub guard: u16,
 }
 
-// What a case is answered. Values are numbers here: 0, 1, and 2 for X.
+// What a case is answered. Values are numbers here, 0, 1, and 2 for X: `verdict_line` is promised for every number.
 #[derive(Clone, Copy)]
 pub enum CaseAnswer {
     Passes,

@@ -91,7 +91,8 @@ impl Reason {
     }
 }
 
-// A refusal's number and place; block and record are 0 where it names none.
+// A refusal's number and place; block and record are 0 where it names none. The number is no Reason: `refusal_line` is promised
+// for every number.
 #[derive(Clone, Copy)]
 pub struct Refusal {
     pub number: usize,
