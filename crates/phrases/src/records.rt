@@ -62,5 +62,6 @@ impl Records {
 pub fn two_bytes(x: usize) -> [u8; 2]
     ensures { result ≡ digit x 0 ∷ digit x 1 ∷ [] }
 {
-    [(x % 256) as u8, (x / 256 % 256) as u8]
+    let [low, high, ..] = x.to_le_bytes();
+    [low, high]
 }
