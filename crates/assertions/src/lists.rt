@@ -70,6 +70,7 @@ pub fn list(
     ensures { ListAt limits.k limits.n (side_of side) at text.now records.old.expressions records.new.expressions records.old.clauses records.new.clauses result }
 {
     let mut q = skip(text, at);
+    // A while: it goes on as long as a `w` stands, and counts no index.
     while is_at(text, q, b'w') {
         if !records.has_room() {
             return Err(Stopped { at: q });

@@ -10,5 +10,5 @@ use Rattle.phrases.proofs.items.skip_while.Goals as goal
 pub returns : goal.returns
 returns g c = λ p h. passes p _ _ c.requires.inside
     (count_from_yields_List c.take_while.result _ c.count.ensures.ran
-        (YieldsList-from_take_while _ p (YieldsList-from_slice _ (cc)) c.take_while.ensures.closure c.take_while.ensures.done
-            (λ x b q k. search (rules, tests, h))))
+    (YieldsList-from_take_while _ p (YieldsList-from_slice _ (cc)) c.take_while.ensures.closure c.take_while.ensures.done
+    (λ x b q k. search (rules, tests, h))))
