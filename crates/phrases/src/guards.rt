@@ -61,7 +61,7 @@ impl Operator {
 }
 
 // What an expression computes, by its number in the record.
-// It is not meaning::Expression: that holds its operands, as u16, and here they are places still counted as usize.
+// meaning::Expression holds its operands, as u16: with it the numbers would be written out here, and each place cast.
 #[derive(Clone, Copy, Debug, PartialEq, Eq)]
 enum Operation {
     False,
