@@ -25,8 +25,8 @@ fn clause_record(side: Side, told: Told, guard: usize) -> [u8; 8]
     ]
 }
 
-// A word ends at `at` and the next item, at q, may not touch it.
-fn touches(text: &[u8], at: usize, q: usize) -> bool
+// `when` ends at `at`, and the guard, at q, touches it with neither `!` nor `(`.
+fn guard_touches(text: &[u8], at: usize, q: usize) -> bool
     ensures { result ≡ eqb q at && (not (is_at text.now q 33) && not (is_at text.now q 40)) }
 {
     q == at && !is_at(text, q, b'!') && !is_at(text, q, b'(')
@@ -45,7 +45,7 @@ fn clause(
 {
     let end = spell(text, at, b"when")?;
     let from = skip(text, end);
-    if touches(text, end, from) {
+    if guard_touches(text, end, from) {
         return Err(Stopped { at: from });
     }
     let colon = guard(text, from, limits.k, &mut records.expressions)?;
@@ -70,6 +70,7 @@ pub fn list(
     ensures { ListAt limits.k limits.n (side_of side) at text.now records.old.expressions records.new.expressions records.old.clauses records.new.clauses result }
 {
     let mut q = skip(text, at);
+    // A while: it goes on as long as a `w` stands, and counts no index.
     while is_at(text, q, b'w') {
         if !records.has_room() {
             return Err(Stopped { at: q });

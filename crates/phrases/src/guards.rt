@@ -61,6 +61,7 @@ impl Operator {
 }
 
 // What an expression computes, by its number in the record.
+// meaning::Expression holds its operands, as u16: with it the numbers would be written out here, and each place cast.
 #[derive(Clone, Copy, Debug, PartialEq, Eq)]
 enum Operation {
     False,
@@ -115,6 +116,7 @@ pub fn guard(text: &[u8], at: usize, k: usize, es: &mut Records) -> Result<usize
 }
 
 // side (operator side)*
+// No struct holds text, at, around and es: each step has its own `at`, most a new `around`, and `es` is lent on, so each would build it anew.
 #[cycle(levels)]
 fn joined(
     text: &[u8],
@@ -127,6 +129,7 @@ fn joined(
     ensures { GuardAt (strength (operator_of operator)) around.k around.depth around.pending at text.now es.old es.new result }
 {
     let mut end = side(text, at, around, es, operator)?;
+    // A while: it goes on as long as the sign stands, and counts no index.
     while is_at(text, end, operator.sign()) {
         if !es.has_room(around.pending + 2) {
             return Err(Stopped { at: end });

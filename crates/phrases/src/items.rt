@@ -1,5 +1,5 @@
 // Gaps, words and numbers, each from a place on.
-ghost use Rattle.std.specs.Prelude.{◌≡◌, ◌≤◌, length, take_while};
+ghost use Rattle.std.specs.Prelude.{◌≡◌, ℕ, ◌≤◌, Bool, length};
 ghost use Rattle.grammar.specs.Spelling.{is_gap};
 ghost use Rattle.grammar.specs.Bytewise.{is_digit};
 ghost use Rattle.phrases.specs.Places.{Passes, Skips, is_at, SpeltAt};
@@ -17,11 +17,19 @@ fn is_gap(b: u8) -> bool
     matches!(b, b' ' | b'\n' | b'\r')
 }
 
-// How many gaps the text begins with.
-fn gaps(text: &[u8]) -> usize
-    ensures { result ≡ length (take_while is_gap text.now) }
+fn is_digit(b: u8) -> bool
+    ensures { result ≡ is_digit b }
 {
-    text.iter().take_while(|b| is_gap(**b)).count()
+    b.is_ascii_digit()
+}
+
+// The first place from `at` on whose byte fails the test.
+fn skip_while<F: Fn(u8) -> bool>(text: &[u8], at: usize, test: F) -> usize
+    requires inside { at ≤ length text.now }
+    requires callable { F.IsAlwaysCallable test }
+    ensures { (p : ℕ → Bool) → ((b : ℕ) (r : Bool) → F.post test b r → r ≡ p b) → Passes p text.now at result }
+{
+    at + text[at..].iter().take_while(|b| test(**b)).count()
 }
 
 // The first place from `at` on that is no gap.
@@ -29,7 +37,7 @@ pub fn skip(text: &[u8], at: usize) -> usize
     requires { at ≤ length text.now }
     ensures { Skips text.now at result }
 {
-    at + gaps(&text[at..])
+    skip_while(text, at, is_gap)
 }
 
 pub fn is_at(text: &[u8], at: usize, b: u8) -> bool
@@ -51,17 +59,10 @@ pub fn spell(text: &[u8], at: usize, word: &[u8]) -> Result<usize, Stopped>
     Ok(at + word.len())
 }
 
-// How many digits the text begins with.
-fn digits(text: &[u8]) -> usize
-    ensures { result ≡ length (take_while is_digit text.now) }
-{
-    text.iter().take_while(|b| b.is_ascii_digit()).count()
-}
-
 // The first place from `at` on that is no digit.
 pub fn after_digits(text: &[u8], at: usize) -> usize
     requires { at ≤ length text.now }
     ensures { Passes is_digit text.now at result }
 {
-    at + digits(&text[at..])
+    skip_while(text, at, is_digit)
 }

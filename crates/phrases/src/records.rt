@@ -1,24 +1,23 @@
 // A list of records of eight bytes, as many as a job holds.
-ghost use Rattle.std.specs.Prelude.{◌≡◌, ℕ, ◌+◌, ◌*◌, ◌/◌, ◌≤◌, ◌<◌, ◌++◌, ◌↔◌, List, [], ◌∷◌, length, take, IsTrue};
+ghost use Rattle.std.specs.Prelude.{◌≡◌, ℕ, ◌+◌, ◌*◌, ◌/◌, ◌≤◌, ◌<◌, ◌++◌, ◌↔◌, List, [], ◌∷◌, length, IsTrue};
 ghost use Rattle.stored.specs.Bytes.{digit};
 
+use arrayvec::ArrayVec;
 use std::marker::Model;
-use texts::put_text;
 
 const MOST: usize = 504;
 
 #[derive(Drop)]
 pub struct Records {
-    bytes: [u8; 4032],
-    count: usize,
+    list: ArrayVec<u8, 4032>,
 }
 
 impl Model for Records {
     ghost Value = { List ℕ };
 
-    ghost view = { λ r. take (8 * r.count) r.bytes };
+    ghost view = { λ r. r.list.items };
 
-    ghost invariant = { λ r. r.count ≤ 504 };
+    ghost invariant = { λ r. length r.list.items ≡ 8 * (length r.list.items / 8) };
 }
 
 impl Records {
@@ -26,36 +25,36 @@ impl Records {
         ensures { result ≡ [] }
     {
         Records {
-            bytes: [0; 4032],
-            count: 0,
+            list: ArrayVec::new(),
         }
     }
 
     pub fn count(&self) -> usize
         ensures { 8 * result ≡ length self.now }
     {
-        self.count
+        self.list.len() / 8
     }
 
     pub fn has_room(&self, more: usize) -> bool
         requires { more ≤ 65536 }
         ensures { IsTrue result ↔ (length self.now / 8 + more ≤ 504) }
     {
-        self.count + more <= MOST
+        self.list.len() / 8 + more <= MOST
     }
 
     pub fn push(&mut self, next: [u8; 8])
         requires { length self.old < 4032 }
         ensures { self.new ≡ self.old ++ next }
     {
-        put_text(&next, &mut self.bytes, 8 * self.count);
-        self.count += 1;
+        for byte in next {
+            self.list.push(byte);
+        }
     }
 
     pub fn bytes(&self) -> &[u8]
         ensures { result.now ≡ self.now }
     {
-        &self.bytes[..8 * self.count]
+        self.list.as_slice()
     }
 }
 
@@ -63,5 +62,6 @@ impl Records {
 pub fn two_bytes(x: usize) -> [u8; 2]
     ensures { result ≡ digit x 0 ∷ digit x 1 ∷ [] }
 {
-    [(x % 256) as u8, (x / 256 % 256) as u8]
+    let [low, high, ..] = x.to_le_bytes();
+    [low, high]
 }
