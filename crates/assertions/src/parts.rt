@@ -36,7 +36,7 @@ pub struct Counted {
     pub at: usize,
 }
 
-// What a clause says, and the place after it.
+// What a clause says, and the place after it. The value is read as a number, and becomes a byte of the record.
 #[derive(Clone, Copy, Debug, PartialEq, Eq)]
 pub struct Told {
     pub node: usize,

@@ -13,7 +13,7 @@ use decoded::Plan;
 use meaning::Gate::{self, And, Buf, Mux, Not, Or, Xor};
 use words::{Pair, gate_pair};
 
-// Made once a job.
+// Made once a job. A field for each kind, and no list of kinds: each `visit` of a step is compiled with its own gate.
 #[derive(Drop)]
 pub struct Gates<'a> {
     pub plan: &'a Plan,
