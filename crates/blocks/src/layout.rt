@@ -51,6 +51,7 @@ impl Layout {
         }
     }
 
+    // Each of these three adds the span of one more list to the one before.
     pub fn first_expressions(self) -> usize
         ensures { (result ≡ first_expressions self.size) × (result < 2000) }
     {

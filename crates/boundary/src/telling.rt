@@ -5,8 +5,8 @@ ghost use Rattle.boundary.specs.Words.{word_number};
 
 use crate::answers::Answer;
 
-// The room that an answer takes. Each operation asks for it itself, and not by a closure that tries the operation: where that is not
-// called, nothing would be said of the lists that it was lent.
+// The room that an answer takes. All seven operations ask for it in the same two lines, and not by a closure that tries the operation:
+// where that is not called, nothing would be said of the lists that four of them are lent.
 pub type Room = [u8; 40];
 
 // Writes four bytes of each number, low byte first, and returns the number of the answer's word.

@@ -57,7 +57,8 @@ pub struct Run<'a> {
     case: usize,
     // The guards' words of the group of 64 cases that this one is in.
     guards: [u64; 504],
-    // The time of the next row. At hand is the row before it; at time 0 there is none yet.
+    // The time of the next row. At hand is the row before it; at time 0 there is none yet, and `forced` asks the time: an Option
+    // would make each of the other methods say what it answers without a row.
     next: usize,
     row: Row,
     ghost guarded: { Guarded (job_in plan.now) plan.now.size.e guards (case % 64) case },

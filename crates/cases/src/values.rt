@@ -30,6 +30,7 @@ impl Not for Value {
     }
 }
 
+// AND is decided by a 0, OR by a 1: a table for each.
 impl BitAnd for Value {
     type Output = Value;
 
@@ -115,7 +116,7 @@ pub fn has(cell: Cell, one: bool) -> bool
     cell == Some(Value::from(one))
 }
 
-// 0, 1, or 2 for X. A collision is 3, which no row that is shown has.
+// 0, 1, or 2 for X, as rows are promised in bytes. A collision is 3, which no row that is shown has.
 pub fn number(cell: Cell) -> u8
     ensures { result ≡ cell_number (cell_of cell) }
 {

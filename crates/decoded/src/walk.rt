@@ -18,6 +18,7 @@ pub struct ClausesAt<'a> {
 }
 
 impl Plan {
+    // A time is no u8: the one after the last may be 256, and each step asks that its own is not.
     pub fn clauses_at(&self, time: usize) -> ClausesAt<'_>
         requires { time < 256 }
         ensures { timed_from result.plan.now.clauses result.plan.now.size.c result.time result.next ≡ timed self.now.clauses self.now.size.c time }

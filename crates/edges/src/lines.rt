@@ -65,7 +65,7 @@ pub fn last_number(line: &[u8]) -> usize {
     line.rsplit(|b| *b == b' ').next().map_or(0, number_of)
 }
 
-// The number that the digits of a word make; one too large begins anew.
+// The number that the digits of a word make, other bytes passed over, so that `parse` would not do; one too large begins anew.
 fn number_of(word: &[u8]) -> usize {
     word.iter()
         .filter(|b| b.is_ascii_digit())

@@ -65,7 +65,7 @@ fn run(to: &mut Stdout, tests: &[u8], job: &mut Job) {
     }
 }
 
-// Reads until the buffer is full, the input ends or it cannot be read, and says how many bytes came.
+// Reads until the buffer is full, the input ends or it cannot be read, and says how many bytes came. How often, only the input knows.
 fn read_full(input: &mut Stdin, buffer: &mut [u8]) -> usize
     ensures { result ≤ length buffer.old }
 {

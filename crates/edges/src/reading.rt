@@ -66,7 +66,8 @@ pub fn record(job: &mut Job, kind: Kind, [i, code, flag, p, q, r]: [u16; 6]) -> 
     read_and_pack(job, 16896)
 }
 
-// What makes a job be refused with each number from 2 on: block, offset, byte, and the block whose check is mended, for 2 another.
+// What makes a job be refused with each number from 2 on: block, offset, byte, and the block whose check is mended, for 2 another. A
+// row each: as an `Edit` and a block it would be five lines.
 const WRONGS: [(u16, u16, u8, u16); 9] = [
     (6, 511, 0, 0),
     (5, 0, 9, 5),

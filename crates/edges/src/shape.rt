@@ -1,4 +1,5 @@
-// Where document 01 puts a job's blocks and records, and records that keep its rules. Nothing here is of the library under test.
+// Where document 01 puts a job's blocks and records, and records that keep its rules. Nothing here is of the library under test,
+// so codes are 01's numbers.
 ghost use Rattle.std.specs.Prelude.{◌≡◌, ◌+◌, ◌-◌, ◌*◌, ◌/◌, ◌%◌, ◌<◌, ◌≤◌, ℕ, drop, slice_index};
 
 // The kinds of blocks and of their records, as they are numbered.

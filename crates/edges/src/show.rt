@@ -29,7 +29,7 @@ impl fmt::Display for Reading {
     }
 }
 
-// Whether bytes are those that they should be.
+// Whether bytes are those that they should be. A type of its own, as `Kept` is, so that neither is told in the other's words.
 #[derive(Clone, Copy)]
 pub struct Same(pub bool);
 

@@ -115,7 +115,7 @@ pub struct Counts {
     pub empty: usize,
 }
 
-// What a whole job is answered: the counts, and the case and place that decide it.
+// What a whole job is answered: the counts, and the case and place that decide it, each by its name for those who match it.
 #[derive(Clone, Copy)]
 pub enum JobAnswer {
     Holds(Counts),
