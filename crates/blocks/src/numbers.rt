@@ -20,7 +20,12 @@ fn word_at(s: &[u8], i: usize) -> u32
     requires { i + 2 < 2 ^ 63 }
     ensures { result ≡ word_at s.now i }
 {
-    u32::from(u16_at(s, i)) + 65536 * u32::from(u16_at(s, i + 2))
+    u32::from_le_bytes([
+        byte_at(s, i),
+        byte_at(s, i + 1),
+        byte_at(s, i + 2),
+        byte_at(s, i + 3),
+    ])
 }
 
 // The 128 words of a block, added with wrapping.
