@@ -4,7 +4,7 @@
 ghost use Rattle.storing.specs.Counted.{Counted};
 
 use blocks::layout::{Kind, Layout};
-use blocks::numbers::byte_at;
+use blocks::numbers::{byte_at, words_sum};
 use stored::Size;
 
 // Records that are to be stored, and the layout that their sizes give.
@@ -82,15 +82,11 @@ impl Records<'_> {
     }
 
     // The check: what the other 127 words, added with wrapping, leave to 4,294,967,295.
-    #[tactic(auto, using(blocks::proofs::Words::adding), unfolding(stored::specs::Layout::check_word))]
+    #[tactic(auto, unfolding(stored::specs::Layout::check_word))]
     fn check_word(&self, b: u16) -> u32
         ensures { result ≡ check_word (plain_byte (records_in self.now) b) }
     {
-        let mut sum: u32 = 0;
-        for i in 0..127 {
-            sum = sum.wrapping_add(self.plain_word(b, i));
-        }
-        u32::MAX - sum
+        u32::MAX - words_sum(127, |i| self.plain_word(b, i))
     }
 
     #[tactic(auto, unfolding(stored::specs::Layout::block_byte))]
