@@ -1,16 +1,14 @@
--- The first index that fails a test: what it is, that there is one only, and the laws of a loop that looks for it.
+-- The first index that fails a test: what it is, that there is one only, and what a search over the indexes finds.
 -- Assumes nothing.
 use Rattle.std.specs.Prelude.{Option, None, Some}
-use borrow.Author.Rules.{rules}
-use borrow.Author.Tests.{not-true, not-false}
+use Rattle.std.specs.Option.{MatchOption}
 use lib.Dec.{T}
 use mathlib.Core.Path.{◌≡◌, refl, sym, ◌∙◌, subst}
-use mathlib.Core.Bool.{Bool, true, false, not, ◌&&◌}
+use mathlib.Core.Bool.{Bool, true, false, ◌&&◌}
 use native.Mathlib.Decide.{dec_lt}
-use native.Mathlib.Numerals.{add-one}
 use native.Mathlib.Omega.{arith}
-use Prim.Native.Nat.{ℕ, zero, suc, ◌+◌, ◌≤◌, ◌<◌}
-use Rattle.scans.specs.First.{go_on, first_bad, is_clear, each, FirstBad, Passed}
+use Prim.Native.Nat.{ℕ, zero, suc, ◌≤◌, ◌<◌}
+use Rattle.scans.specs.First.{go_on, first_bad, is_clear, each, FirstBad}
 use Rattle.scans.proofs.Bools.{both_ways}
 
 -- what holds of each index below n, and of n, holds of each below n + 1
@@ -106,39 +104,9 @@ unfolding first_bad
 first_bad_same f g zero h = refl
 first_bad_same f g (suc n) h = rw (first_bad_same f g n (λ i l. h i (omega arith)), h n (omega arith))
 
--- the loop: it starts with nothing passed, goes on where the test is true, stops where it is false
-pub passed_none : (f : ℕ → Bool) (n : ℕ) → Passed f n 0
-unfolding first_bad
-passed_none f n = record { within = omega arith; so_far = refl }
-
-module _ {f : ℕ → Bool} {n i : ℕ} (p : Passed f n i) where
-  pub passed_more : i < n → {t : Bool} → t ≡ f i → t ≡ true → Passed f n (i + 1)
-  unfolding first_bad
-  passed_more h q e = let w : f i ≡ true = cc in record { within = omega arith; so_far = rw (add-one, p.so_far, w) }
-
-  pub passed_bad : i < n → {t : Bool} → t ≡ f i → t ≡ false → Some i ≡ first_bad f n
-  passed_bad h q e = let w : f i ≡ false = cc in sym (at_stopped f n (record { below = h; fails = w; before = clear_each f i p.so_far }))
-
-  pub passed_all : n ≤ i → None ≡ first_bad f n
-  passed_all h = let e : i ≡ n = omega arith in sym (rw e at p.so_far)
-
-  -- of a loop that answers only whether each index passes
-  pub passed_each : n ≤ i → true ≡ each f n
-  unfolding each
-  passed_each h = rw (← passed_all h)
-
-  pub passed_not : i < n → {t : Bool} → t ≡ f i → t ≡ false → false ≡ each f n
-  unfolding each
-  passed_not h q e = rw (← passed_bad h q e)
-
-  -- the same where the code tests `!ok`
-  pub passed_more! : i < n → {t : Bool} → t ≡ f i → not t ≡ false → Passed f n (i + 1)
-  passed_more! h {t} q e = passed_more h q (not-false t e)
-
-  pub passed_bad! : i < n → {t : Bool} → t ≡ f i → not t ≡ true → Some i ≡ first_bad f n
-  passed_bad! h {t} q e = passed_bad h q (not-true t e)
-
-  pub passed_not! : i < n → {t : Bool} → t ≡ f i → not t ≡ true → false ≡ each f n
-  passed_not! h {t} q e = passed_not h q (not-true t e)
-
-pub ruleset scans = (rules, passed_none, passed_more, passed_bad, passed_more!, passed_bad!, passed_all, passed_each, passed_not, passed_not!)
+-- what `find` finds over the numbers below n is where it stops
+pub found_first : (f : ℕ → Bool) (n : ℕ) (r : Option ℕ)
+    → MatchOption r ((k : ℕ) → 0 ≤ k → k < n → k < n → f k ≡ true)
+    (λ i. (0 ≤ i) × (i < n) × (i < n → f i ≡ false) × ((k : ℕ) → 0 ≤ k → k < i → k < n → f k ≡ true)) → r ≡ first_bad f n
+found_first f n None h = sym (each_clear f n (λ k l. h k (omega arith) l l))
+found_first f n (Some i) h = sym (at_stopped f n (record { below = h.1; fails = h.2 h.1; before = λ k l. h.3 k (omega arith) l (omega (arith, h.1)) }))

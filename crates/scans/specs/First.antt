@@ -1,7 +1,7 @@
 -- The first index that fails a test; every index; the first place over times and nodes.
 -- Assumes nothing.
 use Rattle.std.specs.Prelude.{Option, None, Some}
-use Rattle.std.specs.Prelude.{◌≡◌, Bool, true, false, ℕ, zero, suc, ◌≤◌, ◌<◌}
+use Rattle.std.specs.Prelude.{◌≡◌, Bool, true, false, ℕ, zero, suc, ◌<◌}
 
 -- a search that has come to index i: it goes on if nothing failed, and stops there if i fails
 abbrev pub go_on : Option ℕ → Bool → ℕ → Option ℕ
@@ -47,8 +47,3 @@ pub record FirstPlace (f : ℕ → ℕ → Bool) (times nodes t n : ℕ) : Type 
   pub fails : f t n ≡ false
   pub earlier : (t' n' : ℕ) → t' < t → n' < nodes → f t' n' ≡ true
   pub lower : (n' : ℕ) → n' < n → f t n' ≡ true
-
--- how far a scanning loop has come: every index below i passes
-pub record Passed (f : ℕ → Bool) (n i : ℕ) : Type 0 where
-  pub within : i ≤ n
-  pub so_far : first_bad f i ≡ None

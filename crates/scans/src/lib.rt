@@ -10,12 +10,11 @@ pub fn first_bad<F: Fn(usize) -> bool>(count: usize, test: F) -> Option<usize>
     ensures { (f : ℕ → Bool) → ((i : ℕ) (r : Bool) → i < count → F.post test i r → r ≡ f i)
         → result ≡ first_bad f count }
 {
-    for i in 0..count {
-        if !test(i) {
-            return Some(i);
-        }
-    }
-    None
+    // Its clause is written: of itself the closure would ask that the test may be called at every index.
+    let fails = |i: &usize|
+        requires { F.pre test i.now }
+    { !test(*i) };
+    (0..count).find(fails)
 }
 
 // Whether each index below `count` passes the test.

@@ -57,6 +57,7 @@ impl Reason {
     }
 
     // Refuses the first block below `count` that fails the test.
+    // Not written by one function over a closure that makes the refusal, for blocks and records: its clause would be longer than both bodies.
     pub fn unless_each_block<F: Fn(usize) -> bool>(
         self,
         count: usize,

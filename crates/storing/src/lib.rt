@@ -4,7 +4,7 @@
 ghost use Rattle.storing.specs.Counted.{Counted};
 
 use blocks::layout::{Kind, Layout};
-use blocks::numbers::byte_at;
+use blocks::numbers::{byte_at, words_sum};
 use stored::Size;
 
 // Records that are to be stored, and the layout that their sizes give.
@@ -35,10 +35,11 @@ impl Records<'_> {
 
     // Byte `o` of the room for records in block `b`.
     #[tactic(auto, using(crate::proofs::Rooms::rooms))]
-    fn room_byte(&self, b: usize, o: usize) -> u8
-        requires { (b < 65536) × (o < 504) }
+    fn room_byte(&self, b: u16, o: usize) -> u8
+        requires { o < 504 }
         ensures { result ≡ plain_byte (records_in self.now) b (o + 4) }
     {
+        let b = usize::from(b);
         match self.layout.block_kind(b) {
             Kind::Header => byte_at(&self.header_record(), o),
             Kind::Nodes => byte_at(self.nodes, 504 * (b - 1) + o),
@@ -54,22 +55,22 @@ impl Records<'_> {
 
     // Byte `o` of block `b`, the check left out.
     #[tactic(auto, unfolding(stored::specs::Layout::plain_byte))]
-    fn plain_byte(&self, b: usize, o: usize) -> u8
-        requires { (b < 65536) × (o < 508) }
+    fn plain_byte(&self, b: u16, o: usize) -> u8
+        requires { o < 508 }
         ensures { result ≡ plain_byte (records_in self.now) b o }
     {
-        let [low, high] = (b as u16).to_le_bytes();
+        let [low, high] = b.to_le_bytes();
         match o {
             0 => low,
             1 => high,
-            2 => self.layout.block_kind(b).number(),
-            3 => self.layout.block_used(b),
+            2 => self.layout.block_kind(usize::from(b)).number(),
+            3 => self.layout.block_used(usize::from(b)),
             _ => self.room_byte(b, o - 4),
         }
     }
 
-    fn plain_word(&self, b: usize, i: usize) -> u32
-        requires { (b < 65536) × (i < 127) }
+    fn plain_word(&self, b: u16, i: usize) -> u32
+        requires { i < 127 }
         ensures { result ≡ word_of (plain_byte (records_in self.now) b) i }
     {
         u32::from_le_bytes([
@@ -81,21 +82,16 @@ impl Records<'_> {
     }
 
     // The check: what the other 127 words, added with wrapping, leave to 4,294,967,295.
-    #[tactic(auto, using(blocks::proofs::Words::adding), unfolding(stored::specs::Layout::check_word))]
-    fn check_word(&self, b: usize) -> u32
-        requires { b < 65536 }
+    #[tactic(auto, unfolding(stored::specs::Layout::check_word))]
+    fn check_word(&self, b: u16) -> u32
         ensures { result ≡ check_word (plain_byte (records_in self.now) b) }
     {
-        let mut sum: u32 = 0;
-        for i in 0..127 {
-            sum = sum.wrapping_add(self.plain_word(b, i));
-        }
-        u32::MAX - sum
+        u32::MAX - words_sum(127, |i| self.plain_word(b, i))
     }
 
     #[tactic(auto, unfolding(stored::specs::Layout::block_byte))]
-    fn block_byte(&self, b: usize, o: usize) -> u8
-        requires { (b < 65536) × (o < 512) }
+    fn block_byte(&self, b: u16, o: usize) -> u8
+        requires { o < 512 }
         ensures { result ≡ block_byte (records_in self.now) b o }
     {
         if o < 508 {
@@ -118,7 +114,7 @@ impl Records<'_> {
         ensures { out.new ≡ stored (records_in self.now) ++ drop (512 * blocks_of (sizes_of (records_in self.now))) out.old }
     {
         for j in 0..self.size() {
-            out[j] = self.block_byte(j / 512, j % 512);
+            out[j] = self.block_byte((j / 512) as u16, j % 512);
         }
     }
 }

@@ -1,18 +1,15 @@
--- `first_bad` stops where the test fails, as the loop's laws have it.
+-- `first_bad` finds the first index that the test fails, over a range.
 -- Assumes nothing.
-use Rattle.scans.proofs.Search.{passed_none, passed_more, passed_bad, passed_all}
+use Rattle.std.proofs.Common.{rules, ◌≡◌, ◌<◌, true, false, arith, tests}
+use Rattle.std.proofs.lemmas.Iterator.{serves_from_Range, first_from_Range}
+use Rattle.scans.proofs.Search.{found_first}
 use Rattle.scans.proofs.first_bad.Goals as goal
 
-pub loop-i-init : goal.loop-i-init
-loop-i-init g c = λ f h. passed_none f _
-
-pub loop-i-preserved : goal.loop-i-preserved
-loop-i-preserved g c =
-    λ f h. passed_more (c.loop-i.invariant f h) c.loop-i-test.true (h _ _ c.loop-i-test.true c.test.ensures) c.if-not-test.false
-
-pub returns-then-not-test : goal.returns-then-not-test
-returns-then-not-test g c =
-    λ f h. passed_bad (c.loop-i.invariant f h) c.loop-i-test.true (h _ _ c.loop-i-test.true c.test.ensures) c.if-not-test.true
+pub find-requires-clause-callable : goal.find-requires-clause-callable
+find-requires-clause-callable g c = serves_from_Range (λ x q e. search rules) (λ x l h y e. c.requires y.now (omega (arith, e, h)))
 
 pub returns : goal.returns
-returns g c = λ f h. passed_all (c.loop-i.invariant f h) c.loop-i-test.false
+returns g c = λ f h.
+    let n = c.args.count in
+    found_first f n _ (first_from_Range _ _ _ _ (λ x. x < n → f x ≡ false) (λ x. x < n → f x ≡ true) c.find.ensures.ran
+    (λ x q e l. grind (arith, tests, h)) (λ x q e. (search rules, λ l. grind (arith, tests, h))))
