@@ -18,7 +18,7 @@ use blocks::layout::limits_ok;
 use phrases::items::Stopped;
 use phrases::records::Records;
 use stored::Size;
-use texts::put_text;
+use texts::put_front;
 
 // The counts of expressions and clauses.
 #[derive(Clone, Copy, Debug, PartialEq, Eq)]
@@ -102,8 +102,8 @@ pub fn read_text(
     if !has_room(es.len(), cs.len(), expressions.len(), clauses.len()) {
         return Err(TextRefusal::Room);
     }
-    put_text(es, expressions, 0);
-    put_text(cs, clauses, 0);
+    put_front(es, expressions);
+    put_front(cs, clauses);
     Ok(Written {
         expressions: records.expressions.count(),
         clauses: records.clauses.count(),
