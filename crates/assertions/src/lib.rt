@@ -46,7 +46,7 @@ impl TextRefusal {
         }
     }
 
-    // The byte where the text stops; 0 where it is not the text.
+    // The byte where the text stops; 0 where it is not the text, as `boundary` tells 0 where a refusal names no byte.
     pub fn byte(self) -> usize
         ensures { result ≡ byte_of self }
     {
@@ -65,7 +65,7 @@ impl From<Stopped> for TextRefusal {
     }
 }
 
-// k and n are within the limits of a job.
+// k and n are within the limits of a job; e and c are 0, as no list is there yet to count: each is tested as it grows.
 fn in_limits(k: usize, n: usize) -> bool
     ensures { result ≡ limits k n }
 {
