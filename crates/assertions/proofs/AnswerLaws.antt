@@ -2,16 +2,14 @@
 -- Assumes nothing.
 use mathlib.Core.Path.{◌≡◌, refl, sym, ◌∙◌, ap, subst}
 use mathlib.Core.Bool.{Bool, true, false, ◌&&◌}
-use mathlib.Core.List.{List}
+use mathlib.Core.List.{List, ◌++◌}
 use native.Mathlib.Omega.{arith}
 use Prim.Native.Nat.{ℕ, ◌*◌, ◌≤◌}
 use lib.Dec.{leb}
-use lib.ListN.{length}
+use lib.ListN.{length, drop}
 use Rattle.scans.proofs.Bools.{says, both_ways}
 use Rattle.stored.specs.Broken.{Limits}
 use Rattle.stored.proofs.RuleTests.{limits_rule}
-use Rattle.texts.specs.Putting.{Puts}
-use Rattle.texts.proofs.PutLaws.{front_all}
 use Rattle.std.specs.Prelude.{Ok, Err}
 use Rattle.assertions.specs.declared.TextRefusal.TheVariants.{Text, Room as ListTooShort}
 use Rattle.grammar.specs.Grammar.{Reads, limits}
@@ -55,9 +53,9 @@ module _ (k n : ℕ) {text es cs : List ℕ} {t : Bool} (t-is : t ≡ limits k n
             let yes_room : leb (length es) (length expressions) && leb (length cs) (length clauses) ≡ true = simp says (omega (arith, room.0, ap length x.es_are), omega (arith, room.1, ap length x.cs_are)) in
             both_ways yes_room (sym u-is ∙ l)
 
-    pub written : {expressions' clauses' : List ℕ} {a b e c : ℕ} → u ≡ true → Puts es 0 expressions expressions' a → Puts cs 0 clauses clauses' b → 8 * e ≡ length es → 8 * c ≡ length cs
+    pub written : {expressions' clauses' : List ℕ} {e c : ℕ} → u ≡ true → expressions' ≡ es ++ drop (length es) expressions → clauses' ≡ cs ++ drop (length cs) clauses → 8 * e ≡ length es → 8 * c ≡ length cs
         → Answered k n text expressions clauses expressions' clauses' (Ok (record { expressions = e; clauses = c }))
-    written {expressions'} {clauses'} {a} {b} l p q e_is c_is =
+    written {expressions'} {clauses'} l p q e_is c_is =
         let r = simp says at (sym u-is ∙ l) in
         record {
           says = record {
@@ -65,8 +63,8 @@ module _ (k n : ℕ) {text es cs : List ℕ} {t : Bool} (t-is : t ≡ limits k n
             text = x.t;
             reads = read_as;
             room = (omega (arith, r.0, ap length x.es_are), omega (arith, r.1, ap length x.cs_are));
-            expressions_are = front_all (subst (λ s. Puts s 0 expressions expressions' a) x.es_are p);
-            clauses_are = front_all (subst (λ s. Puts s 0 clauses clauses' b) x.cs_are q);
+            expressions_are = subst (λ s. expressions' ≡ s ++ drop (length s) expressions) x.es_are p;
+            clauses_are = subst (λ s. clauses' ≡ s ++ drop (length s) clauses) x.cs_are q;
             e_is = omega (arith, e_is, ap length x.es_are);
             c_is = omega (arith, c_is, ap length x.cs_are);
           };

@@ -18,7 +18,7 @@ use blocks::layout::limits_ok;
 use phrases::items::Stopped;
 use phrases::records::Records;
 use stored::Size;
-use texts::put_text;
+use texts::put_front;
 
 // The counts of expressions and clauses.
 #[derive(Clone, Copy, Debug, PartialEq, Eq)]
@@ -46,7 +46,7 @@ impl TextRefusal {
         }
     }
 
-    // The byte where the text stops; 0 where it is not the text.
+    // The byte where the text stops; 0 where it is not the text, as `boundary` tells 0 where a refusal names no byte.
     pub fn byte(self) -> usize
         ensures { result ≡ byte_of self }
     {
@@ -65,7 +65,7 @@ impl From<Stopped> for TextRefusal {
     }
 }
 
-// k and n are within the limits of a job.
+// k and n are within the limits of a job; e and c are 0, as no list is there yet to count: each is tested as it grows.
 fn in_limits(k: usize, n: usize) -> bool
     ensures { result ≡ limits k n }
 {
@@ -102,8 +102,8 @@ pub fn read_text(
     if !has_room(es.len(), cs.len(), expressions.len(), clauses.len()) {
         return Err(TextRefusal::Room);
     }
-    put_text(es, expressions, 0);
-    put_text(cs, clauses, 0);
+    put_front(es, expressions);
+    put_front(cs, clauses);
     Ok(Written {
         expressions: records.expressions.count(),
         clauses: records.clauses.count(),

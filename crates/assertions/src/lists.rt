@@ -1,4 +1,5 @@
 // Clauses one after the other.
+// No struct holds text, at, limits and records: each step has its own `at`, and `records` is lent on.
 ghost use Rattle.std.specs.Prelude.{◌≡◌, not, ◌&&◌, ◌≤◌, eqb, length};
 ghost use Rattle.grammar.specs.Records.{clause_bytes};
 ghost use Rattle.phrases.specs.Places.{is_at, Stands};

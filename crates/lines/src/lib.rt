@@ -11,7 +11,7 @@ ghost use Rattle.lines.specs.Written.{Gives};
 use crate::pieces::{push_field, push_value};
 use meaning::{Counts, JobAnswer};
 use stored::Refusal;
-use texts::{Line, put_text};
+use texts::{Line, put_front};
 
 #[tactic(auto, unfolding(crate::specs::Lines::field, crate::specs::Lines::counts))]
 fn push_counts(line: &mut Line, counts: Counts)
@@ -104,7 +104,7 @@ fn give(line: &Line, out: &mut [u8]) -> usize
     if out.len() < line.len() {
         return 0;
     }
-    put_text(line.as_str().as_bytes(), out, 0)
+    put_front(line.as_str().as_bytes(), out)
 }
 
 // The line of an answer, for which 256 bytes are enough.

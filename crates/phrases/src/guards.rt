@@ -135,11 +135,8 @@ fn joined(
             return Err(Stopped { at: end });
         }
         let left = es.count() - 1;
-        let waiting = Nesting {
-            k: around.k,
-            depth: around.depth,
-            pending: around.pending + 1,
-        };
+        let mut waiting = around;
+        waiting.pending += 1;
         let next = side(text, skip(text, end + 1), waiting, es, operator)?;
         let right = es.count() - 1;
         es.push(expression(operator.operation(), left, right));
@@ -188,11 +185,8 @@ fn negated(text: &[u8], at: usize, around: Nesting, es: &mut Records) -> Result<
     if !es.has_room(around.pending + 2) {
         return Err(Stopped { at });
     }
-    let waiting = Nesting {
-        k: around.k,
-        depth: around.depth,
-        pending: around.pending + 1,
-    };
+    let mut waiting = around;
+    waiting.pending += 1;
     let end = single(text, skip(text, at + 1), waiting, es)?;
     let inner = es.count() - 1;
     es.push(expression(Operation::Not, inner, 0));
@@ -208,11 +202,8 @@ fn grouped(text: &[u8], at: usize, around: Nesting, es: &mut Records) -> Result<
     if around.depth >= DEPTH {
         return Err(Stopped { at });
     }
-    let inside = Nesting {
-        k: around.k,
-        depth: around.depth + 1,
-        pending: around.pending,
-    };
+    let mut inside = around;
+    inside.depth += 1;
     let end = joined(text, skip(text, at + 1), inside, es, Operator::Or)?;
     if !is_at(text, end, b')') {
         return Err(Stopped { at: end });

@@ -1,4 +1,5 @@
 // Gaps, words and numbers, each from a place on.
+// No type holds text and place: each step asks `at` ≤ the text's length by itself, and would take it apart and build it anew.
 ghost use Rattle.std.specs.Prelude.{◌≡◌, ℕ, ◌≤◌, Bool, length};
 ghost use Rattle.grammar.specs.Spelling.{is_gap};
 ghost use Rattle.grammar.specs.Bytewise.{is_digit};

@@ -1,5 +1,6 @@
 // A list of records of eight bytes, as many as a job holds.
 ghost use Rattle.std.specs.Prelude.{◌≡◌, ℕ, ◌+◌, ◌*◌, ◌/◌, ◌≤◌, ◌<◌, ◌++◌, ◌↔◌, List, [], ◌∷◌, length, IsTrue};
+ghost use Rattle.std.specs.List.{flat_map};
 ghost use Rattle.stored.specs.Bytes.{digit};
 
 use arrayvec::ArrayVec;
@@ -9,15 +10,15 @@ const MOST: usize = 504;
 
 #[derive(Drop)]
 pub struct Records {
-    list: ArrayVec<u8, 4032>,
+    list: ArrayVec<[u8; 8], MOST>,
 }
 
 impl Model for Records {
     ghost Value = { List ℕ };
 
-    ghost view = { λ r. r.list.items };
+    ghost view = { λ r. flat_map (λ x. x) r.list.items };
 
-    ghost invariant = { λ r. length r.list.items ≡ 8 * (length r.list.items / 8) };
+    ghost invariant = { λ r. length (flat_map (λ x. x) r.list.items) ≡ 8 * length r.list.items };
 }
 
 impl Records {
@@ -32,29 +33,27 @@ impl Records {
     pub fn count(&self) -> usize
         ensures { 8 * result ≡ length self.now }
     {
-        self.list.len() / 8
+        self.list.len()
     }
 
     pub fn has_room(&self, more: usize) -> bool
         requires { more ≤ 65536 }
         ensures { IsTrue result ↔ (length self.now / 8 + more ≤ 504) }
     {
-        self.list.len() / 8 + more <= MOST
+        self.list.len() + more <= MOST
     }
 
     pub fn push(&mut self, next: [u8; 8])
         requires { length self.old < 4032 }
         ensures { self.new ≡ self.old ++ next }
     {
-        for byte in next {
-            self.list.push(byte);
-        }
+        self.list.push(next);
     }
 
     pub fn bytes(&self) -> &[u8]
         ensures { result.now ≡ self.now }
     {
-        self.list.as_slice()
+        self.list.as_slice().as_flattened()
     }
 }
 

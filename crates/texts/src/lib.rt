@@ -1,23 +1,22 @@
-// Texts put at a place of lent bytes, and numbers at the end of a line, in their decimal digits.
+// Texts put at the front of lent bytes, and numbers at the end of a line, in their decimal digits.
 #![tactic(auto)]
 
-ghost use Rattle.std.specs.Prelude.{◌≡◌, ◌++◌, ◌+◌, ◌≤◌, length};
+ghost use Rattle.std.specs.Prelude.{◌≡◌, ◌++◌, ◌+◌, ◌≤◌, drop, length};
 ghost use Rattle.texts.specs.Decimals.{decimal};
-ghost use Rattle.texts.specs.Putting.{Puts};
 
 use arrayvec::ArrayString;
 use itoa::Buffer;
 
 pub type Line = ArrayString<256>;
 
-// Answers the place after the text.
-pub fn put_text(text: &[u8], line: &mut [u8], at: usize) -> usize
-    requires { at + length text.now ≤ length line.old }
-    ensures { Puts text.now at line.old line.new result }
+// Answers the text's length; what `out` had after it stays.
+pub fn put_front(text: &[u8], out: &mut [u8]) -> usize
+    requires { length text.now ≤ length out.old }
+    ensures put { out.new ≡ text.now ++ drop (length text.now) out.old }
+    ensures count { result ≡ length text.now }
 {
-    let end = at + text.len();
-    line[at..end].copy_from_slice(text);
-    end
+    out[..text.len()].copy_from_slice(text);
+    text.len()
 }
 
 // Twenty digits at most.
