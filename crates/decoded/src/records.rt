@@ -100,10 +100,7 @@ fn record<R: Decode>(job: &[u8], first: usize, count: usize, i: usize) -> R
     if i >= count {
         return R::decode(&[], 0);
     }
-    let list = Listed {
-        bytes: job,
-        first: Some(first),
-    };
+    let list = Listed::in_blocks(job, first);
     R::decode(job, list.place(i))
 }
 

@@ -96,18 +96,9 @@ pub fn pack(
     let layout = Layout { size };
     rules_kept(
         layout,
-        Listed {
-            bytes: nodes,
-            first: None,
-        },
-        Listed {
-            bytes: expressions,
-            first: None,
-        },
-        Listed {
-            bytes: clauses,
-            first: None,
-        },
+        Listed::in_row(nodes),
+        Listed::in_row(expressions),
+        Listed::in_row(clauses),
     )?;
     let records = Records {
         layout,
