@@ -1,6 +1,6 @@
 // The rules of the records, one function a line of the table, and the first record that breaks its own. Codes are bytes here: one
 // that names no gate, op or side is what a rule refuses.
-ghost use Rattle.std.specs.Prelude.{◌≡◌, ◌+◌, ◌*◌, ◌^◌, ◌<◌};
+ghost use Rattle.std.specs.Prelude.{◌≡◌, ◌+◌, ◌*◌, ◌^◌, ◌<◌, None, Some};
 ghost use Rattle.std.specs.Option.{ForSome};
 ghost use Rattle.stored.specs.Rules.{operand_ok, node_ok, first_ok, second_ok, expression_ok, clause_ok};
 ghost use Rattle.blocks.specs.Steps.{spot, Follows};
@@ -102,6 +102,24 @@ pub struct Listed<'a> {
 }
 
 impl<'a> Listed<'a> {
+    pub fn in_row(bytes: &'a [u8]) -> Listed<'a>
+        ensures bytes { result.bytes.now ≡ bytes.now }
+        ensures first { result.first ≡ None }
+    {
+        Listed { bytes, first: None }
+    }
+
+    pub fn in_blocks(bytes: &'a [u8], first: usize) -> Listed<'a>
+        requires { first < 65536 }
+        ensures bytes { result.bytes.now ≡ bytes.now }
+        ensures first { result.first ≡ Some first }
+    {
+        Listed {
+            bytes,
+            first: Some(first),
+        }
+    }
+
     // Where record `i` stands.
     pub fn place(self, i: usize) -> usize
         requires { i < 65536 }

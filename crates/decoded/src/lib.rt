@@ -5,7 +5,7 @@ mod chains;
 mod records;
 mod walk;
 
-ghost use Rattle.std.specs.Prelude.{◌≡◌};
+ghost use Rattle.std.specs.Prelude.{◌≡◌, ◌^◌};
 ghost use Rattle.meaning.specs.Jobs.{latest};
 ghost use Rattle.decoded.specs.Chains.{Chained};
 ghost use Rattle.decoded.specs.Plans.{clause_of, Decoded};
@@ -58,5 +58,12 @@ impl Plan {
             nexts,
             last,
         }
+    }
+
+    // How many cases the job has.
+    pub fn cases(&self) -> usize
+        ensures { result ≡ 2 ^ self.now.size.k }
+    {
+        1 << self.size.k
     }
 }

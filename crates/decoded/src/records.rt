@@ -92,6 +92,7 @@ impl Decode for Clause {
     }
 }
 
+// The block by its number, here and in `decode_list`: a `Listed` may also be a row, of which `record_byte` does not speak.
 // Record `i` of the `count` that begin in block `first` of a job; past them, what a record of zeros says.
 fn record<R: Decode>(job: &[u8], first: usize, count: usize, i: usize) -> R
     requires { (first < 65536) × (i < 65536) }
@@ -100,10 +101,7 @@ fn record<R: Decode>(job: &[u8], first: usize, count: usize, i: usize) -> R
     if i >= count {
         return R::decode(&[], 0);
     }
-    let list = Listed {
-        bytes: job,
-        first: Some(first),
-    };
+    let list = Listed::in_blocks(job, first);
     R::decode(job, list.place(i))
 }
 

@@ -24,6 +24,7 @@ pub fn sizes(job: &[u8]) -> Result<Size, Refusal>
     read(job).map(|layout| layout.size)
 }
 
+// The block by its number, here and in `copy_records`: a `Listed` may also be a row, of which this clause does not speak.
 #[tactic(auto, unfolding(stored::specs::Layout::record_byte))]
 fn record_byte(s: &[u8], first: usize, q: usize) -> u8
     requires { (first < 65536) × (q < 1000000) }
@@ -32,7 +33,7 @@ fn record_byte(s: &[u8], first: usize, q: usize) -> u8
     byte_at(s, 512 * (first + q / 504) + 4 + q % 504)
 }
 
-// The m records that start in block `first`, in a row.
+// The m records that start in block `first`, in a row. Byte by byte, as the clause says the list: each byte by its place alone.
 #[tactic(auto, using(scans::proofs::Lists::filling))]
 fn copy_records(s: &[u8], first: usize, m: usize, list: &mut [u8])
     requires { (first < 65536) × (m < 65536) × (8 * m ≤ length list.old) }
@@ -96,18 +97,9 @@ pub fn pack(
     let layout = Layout { size };
     rules_kept(
         layout,
-        Listed {
-            bytes: nodes,
-            first: None,
-        },
-        Listed {
-            bytes: expressions,
-            first: None,
-        },
-        Listed {
-            bytes: clauses,
-            first: None,
-        },
+        Listed::in_row(nodes),
+        Listed::in_row(expressions),
+        Listed::in_row(clauses),
     )?;
     let records = Records {
         layout,

@@ -103,18 +103,9 @@ pub fn read(s: &[u8]) -> Result<Layout, Refusal>
     Reason::Block.unless_each_block(blocks, |b| Block::of(s, b).kind_and_used_ok())?;
     Reason::Rest.unless_each_block(blocks, |b| Block::of(s, b).rest_ok())?;
     let layout = Layout::of_header(s);
-    let nodes = Listed {
-        bytes: s,
-        first: Some(1),
-    };
-    let expressions = Listed {
-        bytes: s,
-        first: Some(layout.first_expressions()),
-    };
-    let clauses = Listed {
-        bytes: s,
-        first: Some(layout.first_clauses()),
-    };
+    let nodes = Listed::in_blocks(s, 1);
+    let expressions = Listed::in_blocks(s, layout.first_expressions());
+    let clauses = Listed::in_blocks(s, layout.first_clauses());
     rules_kept(layout, nodes, expressions, clauses)?;
     Ok(layout)
 }

@@ -1,7 +1,7 @@
 -- Each operation after reading: what reading refuses is refused, and otherwise the rest of its table decides.
 -- Assumes nothing.
 use Rattle.std.specs.Prelude.{Result, Ok, Err}
-use Rattle.std.proofs.Common.{◌≡◌, refl, sym, ◌∙◌, ap, Bool, true, false, ℕ, zero, suc, ◌+◌, ◌^◌, ◌≤◌, List, [], ◌∷◌, ◌++◌, length, drop, ltb, leb, arith}
+use Rattle.std.proofs.Common.{◌≡◌, refl, sym, ◌∙◌, ap, Bool, true, false, ℕ, zero, suc, ◌^◌, List, [], ◌∷◌, ◌++◌, length, drop, ltb, leb, arith}
 use lib.ListN.{length-append}
 use Rattle.scans.specs.First.{first_bad, each}
 use Rattle.scans.specs.Refusals.{whole, unless_at, in_order}

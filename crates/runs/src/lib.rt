@@ -1,8 +1,10 @@
 // Running stored jobs: the row of a case, the answer for one case, the answer for the whole job.
 #![tactic(auto)]
 
-ghost use Rattle.std.specs.Prelude.{◌≡◌, ◌+◌, ◌^◌, ◌≤◌};
+ghost use Rattle.std.specs.Prelude.{◌≡◌, ◌+◌, ◌^◌, ◌≤◌, ltb};
 ghost use Rattle.meaning.specs.Answers.{decided_by, job_answer};
+ghost use Rattle.scans.specs.Refusals.{whole};
+ghost use Rattle.stored.specs.Checked.{checked};
 ghost use Rattle.verdicts.specs.Running.{check_answer, one_case_answer, stated_checked, stated_case_checked, GivesRow};
 ghost use Rattle.decoded.specs.Meant.{job_in};
 
@@ -13,10 +15,11 @@ use ready::make_ready;
 use stored::{Reason, Refusal};
 use tallies::{Counted, count_cases};
 
-fn cases_of(plan: &Plan) -> usize
-    ensures { result ≡ 2 ^ plan.now.size.k }
+// Refuses a case that the job does not have.
+fn known_case(plan: &Plan, case: usize) -> Result<(), Refusal>
+    ensures { result ≡ checked (whole 11 (ltb case (2 ^ plan.now.size.k))) }
 {
-    1 << plan.size.k
+    Reason::Case.unless(case < plan.cases())
 }
 
 // The counts of a job. Every case is passing, failing or empty.
@@ -67,7 +70,7 @@ fn decide(plan: &Plan) -> JobAnswer
     ensures { result ≡ job_answer (job_in plan.now) }
 {
     let counted = count_cases(plan);
-    let counts = counts_of(cases_of(plan), counted);
+    let counts = counts_of(plan.cases(), counted);
     match counted.failing.least.or(counted.empty.least) {
         Some(case) => decided(counts, case, case_answer(plan, case)),
         None => JobAnswer::Holds(counts),
@@ -86,7 +89,7 @@ pub fn one_case(job: &[u8], case: usize) -> Result<CaseAnswer, Refusal>
     ensures { stated_case_checked result ≡ one_case_answer job.now case }
 {
     let plan = make_ready(job)?;
-    Reason::Case.unless(case < cases_of(&plan))?;
+    known_case(&plan, case)?;
     Ok(case_answer(&plan, case))
 }
 
@@ -96,7 +99,7 @@ pub fn row(job: &[u8], case: usize, time: usize, out: &mut [u8]) -> Result<usize
 {
     let plan = make_ready(job)?;
     let n = plan.size.n;
-    Reason::Case.unless(case < cases_of(&plan))?;
+    known_case(&plan, case)?;
     Reason::Time.unless(time <= 255)?;
     Reason::Room.unless(n <= out.len())?;
     let Some(row) = case_row(&plan, case, time) else {

@@ -1,6 +1,6 @@
 -- One more group: the count goes on, and the least case stays or is found in it.
 -- Assumes nothing.
-use Rattle.std.proofs.Common.{◌≡◌, refl, sym, ◌∙◌, ap, subst, Bool, true, false, not, ◌&&◌, Option, Some, None, MatchOption, ℕ, ◌+◌, ◌*◌, ◌-◌, ◌%◌, ◌^◌, ◌≤◌, ◌<◌, min, bit_and, arith}
+use Rattle.std.proofs.Common.{◌≡◌, refl, sym, ◌∙◌, ap, subst, Bool, true, false, not, ◌&&◌, Option, Some, None, MatchOption, ℕ, ◌+◌, ◌*◌, ◌-◌, ◌^◌, ◌≤◌, ◌<◌, min, bit_and, arith}
 use Rattle.std.specs.Int.{div_ceil}
 use Rattle.std.specs.Option.{option_or}
 use native.Mathlib.Decide.{dec_lt}
@@ -83,8 +83,8 @@ pub record Groups (k n : ℕ) : Type 0 where
   pub all : 2 ^ k ≤ 64 * n
   pub within : (g : ℕ) → g < n → 64 * g < 2 ^ k
 
-pub groups_are : {k n : ℕ} → k ≤ 12 → n ≡ div_ceil (1 * 2 ^ k % 2 ^ 64) 64 → Groups k n
-groups_are {k} {n} h e = let most = pow_mono {i = k} {j = 12} h in record { few = omega (arith, e, most); all = omega (arith, e, most); within = λ g l. omega (arith, e, most) }
+pub groups_are : {k n cases : ℕ} → k ≤ 12 → cases ≡ 2 ^ k → n ≡ div_ceil cases 64 → Groups k n
+groups_are {k} h q e = let most = pow_mono {i = k} {j = 12} h in record { few = omega (arith, e, q, most); all = omega (arith, e, q, most); within = λ g l. omega (arith, e, q, most) }
 
 -- where a place stands for a case at all, it does so in every group
 place_case : (k g i : ℕ) → i < 64 → 64 * g < 2 ^ k → ltb i (2 ^ k) ≡ ltb (64 * g + i) (2 ^ k)

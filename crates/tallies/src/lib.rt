@@ -58,7 +58,7 @@ pub fn count_cases(plan: &Plan) -> Counted
 {
     let gates = Gates::new(plan);
     let used = used_places(plan.size.k);
-    let cases = 1usize << plan.size.k;
+    let cases = plan.cases();
     let mut failing = Found::default();
     let mut empty = Found::default();
     for g in 0..cases.div_ceil(64) {

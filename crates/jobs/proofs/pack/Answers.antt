@@ -27,7 +27,8 @@ pub returns-in_err-rules_kept : goal.returns-in_err-rules_kept
 returns-in_err-rules_kept c =
     let r = records_for c.args.k c.args.nodes.now c.args.expressions.now c.args.clauses.now in
     let p = err_from_is_err_and c.from_residual-in_err-rules_kept.result c.from_residual-in_err-rules_kept.ensures.1 in
-    let table = pack_table r c.args.out.now (c.lists_ok.ensures _) c.unless.ensures c.limits_ok.ensures c.unless-2.ensures c.rules_kept.ensures refl refl in
+    let kept = rw (c.in_row.ensures.bytes, c.in_row.ensures.first, c.in_row-2.ensures.bytes, c.in_row-2.ensures.first, c.in_row-3.ensures.bytes, c.in_row-3.ensures.first) at c.rules_kept.ensures in
+    let table = pack_table r c.args.out.now (c.lists_ok.ensures _) c.unless.ensures c.limits_ok.ensures c.unless-2.ensures kept refl refl in
     rw (p.1, p.2) (pack_refused r _ _ (grind (arith, table)))
 
 pub invariant_of-records : goal.invariant_of-records
@@ -37,7 +38,8 @@ pub returns-in_err-unless-3 : goal.returns-in_err-unless-3
 returns-in_err-unless-3 c =
     let r = records_for c.args.k c.args.nodes.now c.args.expressions.now c.args.clauses.now in
     let p = err_from_is_err_and c.from_residual-in_err-unless-3.result c.from_residual-in_err-unless-3.ensures.1 in
-    let table = pack_table r c.args.out.now (c.lists_ok.ensures _) c.unless.ensures c.limits_ok.ensures c.unless-2.ensures c.rules_kept.ensures c.size-bytes.ensures.0 c.unless-3.ensures in
+    let kept = rw (c.in_row.ensures.bytes, c.in_row.ensures.first, c.in_row-2.ensures.bytes, c.in_row-2.ensures.first, c.in_row-3.ensures.bytes, c.in_row-3.ensures.first) at c.rules_kept.ensures in
+    let table = pack_table r c.args.out.now (c.lists_ok.ensures _) c.unless.ensures c.limits_ok.ensures c.unless-2.ensures kept c.size-bytes.ensures.0 c.unless-3.ensures in
     rw (p.1, p.2) (pack_refused r _ _ (grind (arith, table)))
 
 pub write-requires : goal.write-requires
@@ -48,5 +50,6 @@ write-requires c =
 pub returns : goal.returns
 returns c =
     let r = records_for c.args.k c.args.nodes.now c.args.expressions.now c.args.clauses.now in
-    let table = pack_table r c.args.out.now (c.lists_ok.ensures _) c.unless.ensures c.limits_ok.ensures c.unless-2.ensures c.rules_kept.ensures c.size-bytes.ensures.0 c.unless-3.ensures in
+    let kept = rw (c.in_row.ensures.bytes, c.in_row.ensures.first, c.in_row-2.ensures.bytes, c.in_row-2.ensures.first, c.in_row-3.ensures.bytes, c.in_row-3.ensures.first) at c.rules_kept.ensures in
+    let table = pack_table r c.args.out.now (c.lists_ok.ensures _) c.unless.ensures c.limits_ok.ensures c.unless-2.ensures kept c.size-bytes.ensures.0 c.unless-3.ensures in
     pack_done r c.args.out.now (grind (arith, table)) c.size-bytes.ensures.0 c.write.ensures

@@ -1,6 +1,5 @@
 -- What reading refuses is refused, and any other job is decided.
 -- Assumes nothing.
-use Rattle.std.proofs.Common.{◌≡◌, sym, ◌∙◌, arith}
 use Rattle.std.proofs.lemmas.Result.{err_from_is_err_and}
 use Rattle.runs.proofs.OperationLaws.{check_refused, check_given}
 use Rattle.runs.proofs.check.Goals as goal

@@ -12,13 +12,13 @@ loop-g-init c = record { failing = found_start _ _ c.default-failing.ensures; em
 pub with-failing-requires : goal.with-failing-requires
 with-failing-requires c =
     let k = c.args.plan.now.size.k in
-    let groups : Groups k c.div_ceil-g-end.result = groups_are c.args.plan.now.decoded.k_most c.div_ceil-g-end.ensures in
+    let groups : Groups k c.div_ceil-g-end.result = groups_are c.args.plan.now.decoded.k_most c.cases-cases.ensures c.div_ceil-g-end.ensures in
     (omega (arith, groups.few), omega (arith, groups.few, found_small _ c.loop-g.invariant.failing))
 
 pub with-empty-requires : goal.with-empty-requires
 with-empty-requires c =
     let k = c.args.plan.now.size.k in
-    let groups : Groups k c.div_ceil-g-end.result = groups_are c.args.plan.now.decoded.k_most c.div_ceil-g-end.ensures in
+    let groups : Groups k c.div_ceil-g-end.result = groups_are c.args.plan.now.decoded.k_most c.cases-cases.ensures c.div_ceil-g-end.ensures in
     (omega (arith, groups.few), omega (arith, groups.few, found_small _ c.loop-g.invariant.empty))
 
 pub loop-g-preserved : goal.loop-g-preserved
@@ -26,7 +26,7 @@ loop-g-preserved c =
     let j = job_in c.args.plan.now in
     let k = c.args.plan.now.size.k in
     let g = c.loop-g.g in
-    let groups : Groups k c.div_ceil-g-end.result = groups_are c.args.plan.now.decoded.k_most c.div_ceil-g-end.ensures in
+    let groups : Groups k c.div_ceil-g-end.result = groups_are c.args.plan.now.decoded.k_most c.cases-cases.ensures c.div_ceil-g-end.ensures in
     let here : 64 * g < 2 ^ k = groups.within g c.loop-g-test.true in
     let told = rw c.new-gates.ensures at c.answer_group-answered.ensures in
     record {
@@ -37,6 +37,6 @@ loop-g-preserved c =
 pub returns : goal.returns
 returns c =
     let k = c.args.plan.now.size.k in
-    let groups : Groups k c.div_ceil-g-end.result = groups_are c.args.plan.now.decoded.k_most c.div_ceil-g-end.ensures in
+    let groups : Groups k c.div_ceil-g-end.result = groups_are c.args.plan.now.decoded.k_most c.cases-cases.ensures c.div_ceil-g-end.ensures in
     let all : 2 ^ k ≤ 64 * c.loop-g.g = omega (arith, groups.all) in
     record { failing = found_all _ (2 ^ k) c.loop-g.g c.loop-g.invariant.failing all; empty = found_all _ (2 ^ k) c.loop-g.g c.loop-g.invariant.empty all }

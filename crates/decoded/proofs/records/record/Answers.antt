@@ -5,6 +5,7 @@ use Rattle.scans.specs.Lists.{list_of}
 use Rattle.scans.proofs.Lists.{list_of_past}
 use Rattle.stored.specs.Bytes.{byte_at}
 use Rattle.stored.specs.Layout.{record_byte}
+use Rattle.blocks.specs.Steps.{spot}
 use Rattle.blocks.proofs.Spots.{in_blocks}
 use Rattle.decoded.proofs.records.record.Goals as goal
 
@@ -18,4 +19,4 @@ pub returns : goal.returns
 returns g c =
     let list = list_of (record_byte c.args.job.now c.args.first) (8 * c.args.count) in
     c.decode-2.ensures
-    ∙ g.R.Decode.laws c.args.job.now list _ (8 * c.args.i) (λ f l. ap (λ p. byte_at c.args.job.now (p + f)) c.place.ensures.0 ∙ in_blocks c.args.job.now c.args.first c.args.count c.args.i (omega arith) f l)
+    ∙ g.R.Decode.laws c.args.job.now list _ (8 * c.args.i) (λ f l. ap (λ p. byte_at c.args.job.now (p + f)) (c.place.ensures.0 ∙ ap (λ b. spot b c.args.i) c.in_blocks-list.ensures.first) ∙ in_blocks c.args.job.now c.args.first c.args.count c.args.i (omega arith) f l)

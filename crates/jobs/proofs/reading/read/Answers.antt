@@ -71,7 +71,8 @@ returns-in_err-rules_kept c =
     let blocks = c.unless_each_block-3.ensures (block_ok s) (λ i r h e. search rules) in
     let rests = c.unless_each_block-4.ensures (rest_ok s) (λ i r h e. search rules) in
     let table = read_table s c.length_ok.ensures c.unless.ensures sums numbers c.header_ok.ensures c.unless-2.ensures c.count_ok.ensures c.unless-3.ensures blocks rests in
-    let rules_of = rules_read s c.of_header-layout.result.size c.of_header-layout.ensures c.first_expressions.ensures.0 c.first_clauses.ensures.0 c.rules_kept.ensures (accepted_as (header_sizes s)) in
+    let kept = rw (c.in_blocks-nodes.ensures.bytes, c.in_blocks-nodes.ensures.first, c.in_blocks-expressions.ensures.bytes, c.in_blocks-expressions.ensures.first, c.in_blocks-clauses.ensures.bytes, c.in_blocks-clauses.ensures.first) at c.rules_kept.ensures in
+    let rules_of = rules_read s c.of_header-layout.result.size c.of_header-layout.ensures c.first_expressions.ensures.0 c.first_clauses.ensures.0 kept (accepted_as (header_sizes s)) in
     grind (arith, table, rules_of)
 
 pub returns : goal.returns
@@ -82,5 +83,6 @@ returns c =
     let blocks = c.unless_each_block-3.ensures (block_ok s) (λ i r h e. search rules) in
     let rests = c.unless_each_block-4.ensures (rest_ok s) (λ i r h e. search rules) in
     let table = read_table s c.length_ok.ensures c.unless.ensures sums numbers c.header_ok.ensures c.unless-2.ensures c.count_ok.ensures c.unless-3.ensures blocks rests in
-    let rules_of = rules_read s c.of_header-layout.result.size c.of_header-layout.ensures c.first_expressions.ensures.0 c.first_clauses.ensures.0 c.rules_kept.ensures (accepted_as (header_sizes s)) in
+    let kept = rw (c.in_blocks-nodes.ensures.bytes, c.in_blocks-nodes.ensures.first, c.in_blocks-expressions.ensures.bytes, c.in_blocks-expressions.ensures.first, c.in_blocks-clauses.ensures.bytes, c.in_blocks-clauses.ensures.first) at c.rules_kept.ensures in
+    let rules_of = rules_read s c.of_header-layout.result.size c.of_header-layout.ensures c.first_expressions.ensures.0 c.first_clauses.ensures.0 kept (accepted_as (header_sizes s)) in
     grind (arith, table, rules_of)
