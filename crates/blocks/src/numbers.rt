@@ -28,7 +28,7 @@ fn word_at(s: &[u8], i: usize) -> u32
     ])
 }
 
-// The words below `count`, added with wrapping. What is promised is of the bytes that the words are read from.
+// The first `count` words, added with wrapping. What is promised is of the bytes that the words are read from.
 #[tactic(auto, using(crate::proofs::Words::adding))]
 pub fn words_sum<F: Fn(usize) -> u32>(count: usize, word: F) -> u32
     requires { (i : ℕ) → i < count → F.pre word i }
