@@ -79,7 +79,7 @@ fn has_room(es: usize, cs: usize, expressions: usize, clauses: usize) -> bool
     es <= expressions && cs <= clauses
 }
 
-// A text of `given` and `expect` for k variables and n nodes.
+// A text of `given` and `expect` for k variables and n nodes. Numbers and lists stand by themselves, as C hands them.
 pub fn read_text(
     k: usize,
     n: usize,

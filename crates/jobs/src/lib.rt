@@ -51,7 +51,7 @@ fn room_ok(z: Size, nodes: usize, expressions: usize, clauses: usize) -> bool
     8 * z.n <= nodes && 8 * z.e <= expressions && 8 * z.c <= clauses
 }
 
-// The sizes of a stored job, and its records in three lent lists.
+// The sizes of a stored job, and its records in three lent lists, each by itself, as C lends them.
 pub fn unpack(
     job: &[u8],
     nodes: &mut [u8],
@@ -76,7 +76,7 @@ fn lists_ok(nodes: &[u8], expressions: &[u8], clauses: &[u8]) -> bool
     nodes.len() % 8 == 0 && expressions.len() % 8 == 0 && clauses.len() % 8 == 0
 }
 
-// Records stored as a job in a lent output.
+// Records stored as a job in a lent output. Each list stands by itself, as C lends it.
 pub fn pack(
     k: usize,
     nodes: &[u8],

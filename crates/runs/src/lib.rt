@@ -93,7 +93,8 @@ pub fn one_case(job: &[u8], case: usize) -> Result<CaseAnswer, Refusal>
     Ok(case_answer(&plan, case))
 }
 
-// The row of a case at a time, also past the job's last one: a byte for each node, 0, 1, or 2 for X.
+// The row of a case at a time, also past the job's last one: a byte for each node, 0, 1, or 2 for X. Numbers and room stand by
+// themselves, as C hands them.
 pub fn row(job: &[u8], case: usize, time: usize, out: &mut [u8]) -> Result<usize, Refusal>
     ensures { GivesRow job.now case time out.old out.new result }
 {
