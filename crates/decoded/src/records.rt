@@ -93,19 +93,16 @@ impl Decode for Clause {
 }
 
 // The block by its number, here and in `decode_list`: a `Listed` may also be a row, of which `record_byte` does not speak.
-// Record `i` of the `count` that begin in block `first` of a job; past them, what a record of zeros says.
-fn record<R: Decode>(job: &[u8], first: usize, count: usize, i: usize) -> R
+// Record `i` of those that begin in block `first` of a job.
+fn record<R: Decode>(job: &[u8], first: usize, i: usize) -> R
     requires { (first < 65536) × (i < 65536) }
-    ensures { result ≡ R.value_at (list_of (record_byte job.now first) (8 * count)) (8 * i) }
+    ensures { (count : ℕ) → i < count → result ≡ R.value_at (list_of (record_byte job.now first) (8 * count)) (8 * i) }
 {
-    if i >= count {
-        return R::decode(&[], 0);
-    }
     let list = Listed::in_blocks(job, first);
     R::decode(job, list.place(i))
 }
 
-// The first N records of those.
+// The first N of the `count` records that begin there; past them, what a record of zeros says.
 pub fn decode_list<R: Decode + Copy, const N: usize>(
     job: &[u8],
     first: usize,
@@ -115,8 +112,8 @@ pub fn decode_list<R: Decode + Copy, const N: usize>(
     ensures { (i : ℕ) (d : R) → i < N → slice_index_or result i d ≡ R.value_at (list_of (record_byte job.now first) (8 * count)) (8 * i) }
 {
     let mut list = [R::decode(&[], 0); N];
-    for (i, value) in list.iter_mut().enumerate() {
-        *value = record(job, first, count, i);
+    for i in 0..count.min(N) {
+        list[i] = record(job, first, i);
     }
     list
 }

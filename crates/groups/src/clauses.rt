@@ -70,7 +70,7 @@ impl Group<'_> {
     {
         let steady = &self.gates.steady;
         if t == 0 {
-            *row = *steady;
+            row.copy_from_slice(steady);
             return;
         }
         for clause in self.gates.plan.clauses_at(t) {

@@ -4,7 +4,7 @@ ghost use Rattle.meaning.specs.Gates.{arity};
 ghost use Rattle.meaning.specs.declared.Gate.TheVariants.{Buf, Not, And, Or, Xor, Mux};
 ghost use Rattle.words.specs.Places.{Forces};
 ghost use Rattle.decoded.specs.Meant.{job_in};
-ghost use Rattle.groups.specs.Wired.{Gathered, Steps};
+ghost use Rattle.groups.specs.Wired.{wires_of, Gathered, Steps};
 ghost use Rattle.groups.specs.Steady.{Steady};
 
 use crate::rows::{Row, UNKNOWN};
@@ -17,20 +17,20 @@ use words::{Pair, gate_pair};
 #[derive(Drop)]
 pub struct Gates<'a> {
     pub plan: &'a Plan,
-    bufs: Wires,
-    nots: Wires,
-    ands: Wires,
-    ors: Wires,
-    xors: Wires,
-    muxes: Wires,
+    bufs: Wires<'a>,
+    nots: Wires<'a>,
+    ands: Wires<'a>,
+    ors: Wires<'a>,
+    xors: Wires<'a>,
+    muxes: Wires<'a>,
     // INPUT, ZERO and ONE force the same at every time: what they do, and X for the others.
     pub steady: Row,
-    ghost bufs_all: { Gathered (job_in plan.now) plan.now.size.n Buf bufs.list.items },
-    ghost nots_all: { Gathered (job_in plan.now) plan.now.size.n Not nots.list.items },
-    ghost ands_all: { Gathered (job_in plan.now) plan.now.size.n And ands.list.items },
-    ghost ors_all: { Gathered (job_in plan.now) plan.now.size.n Or ors.list.items },
-    ghost xors_all: { Gathered (job_in plan.now) plan.now.size.n Xor xors.list.items },
-    ghost muxes_all: { Gathered (job_in plan.now) plan.now.size.n Mux muxes.list.items },
+    ghost bufs_all: { Gathered (job_in plan.now) plan.now.size.n Buf (wires_of bufs.plan.now.nodes bufs.list.items) },
+    ghost nots_all: { Gathered (job_in plan.now) plan.now.size.n Not (wires_of nots.plan.now.nodes nots.list.items) },
+    ghost ands_all: { Gathered (job_in plan.now) plan.now.size.n And (wires_of ands.plan.now.nodes ands.list.items) },
+    ghost ors_all: { Gathered (job_in plan.now) plan.now.size.n Or (wires_of ors.plan.now.nodes ors.list.items) },
+    ghost xors_all: { Gathered (job_in plan.now) plan.now.size.n Xor (wires_of xors.plan.now.nodes xors.list.items) },
+    ghost muxes_all: { Gathered (job_in plan.now) plan.now.size.n Mux (wires_of muxes.plan.now.nodes muxes.list.items) },
     ghost is_steady: { Steady (job_in plan.now) steady },
 }
 

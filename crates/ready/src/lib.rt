@@ -8,7 +8,8 @@ use decoded::{Plan, decode_list};
 use jobs::sizes;
 use stored::Refusal;
 
-// The plan of a job that reading accepts.
+// The plan of a job that reading accepts. Not inlined, so that the lists it is made of have left the stack when the job is run.
+#[inline(never)]
 pub fn make_ready(job: &[u8]) -> Result<Plan, Refusal>
     ensures { Readied job.now result }
 {
