@@ -62,17 +62,16 @@ impl Group<'_> {
         missed
     }
 
-    // The row of time `t` is made ready for the time after next: at the nodes of the stimulus, and after time 0, when every node is X, at all.
+    // The row of time `t` is made ready for the time after next: at the nodes of its clauses, and after time 0, when every node is X, at all.
     pub fn renew(&self, t: usize, row: &mut Row)
         requires time { t < 256 }
         requires steady_but { 0 < t → SteadyBut (job_of self.now) (clauses_at self.now t) row.old }
         ensures { Steady (job_of self.now) row.new }
     {
-        let steady = &self.gates.steady;
         if t == 0 {
-            row.copy_from_slice(steady);
-            return;
+            return self.gates.settle(row);
         }
+        let steady = &self.gates.steady;
         for clause in self.gates.plan.clauses_at(t) {
             let node = usize::from(clause.node);
             row[node] = steady[node];

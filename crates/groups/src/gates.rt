@@ -67,6 +67,15 @@ impl<'a> Gates<'a> {
         }
     }
 
+    // Every node of the job is made steady.
+    pub fn settle(&self, row: &mut Row)
+        ensures { Steady (job_in self.now.plan.now) row.new }
+    {
+        for m in 0..self.plan.size.n {
+            row[m] = self.steady[m];
+        }
+    }
+
     // What all gates force from one row is written to another, which has what those without operands force.
     pub fn step(&self, now: &Row, next: &mut Row)
         requires { Steady (job_in self.now.plan.now) next.old }

@@ -8,8 +8,7 @@ use decoded::{Plan, decode_list};
 use jobs::sizes;
 use stored::Refusal;
 
-// The plan of a job that reading accepts. Not inlined, so that the lists it is made of have left the stack when the job is run.
-#[inline(never)]
+// The plan of a job that reading accepts. Its lists go to the plan at once, not by names of their own: each would stand on the stack twice.
 pub fn make_ready(job: &[u8]) -> Result<Plan, Refusal>
     ensures { Readied job.now result }
 {
@@ -17,8 +16,10 @@ pub fn make_ready(job: &[u8]) -> Result<Plan, Refusal>
     let layout = Layout { size };
     let e1 = layout.first_expressions();
     let c1 = layout.first_clauses();
-    let nodes = decode_list(job, 1, size.n);
-    let expressions = decode_list(job, e1, size.e);
-    let clauses = decode_list(job, c1, size.c);
-    Ok(Plan::new(size, nodes, expressions, clauses))
+    Ok(Plan::new(
+        size,
+        decode_list(job, 1, size.n),
+        decode_list(job, e1, size.e),
+        decode_list(job, c1, size.c),
+    ))
 }

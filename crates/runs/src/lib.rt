@@ -77,20 +77,27 @@ fn decide(plan: &Plan) -> JobAnswer
     }
 }
 
-// The whole job.
+// The whole job. Here and below the plan is looked at where it was made: `?` would copy it.
 pub fn check(job: &[u8]) -> Result<JobAnswer, Refusal>
     ensures { stated_checked result ≡ check_answer job.now }
 {
-    Ok(decide(&make_ready(job)?))
+    match &make_ready(job) {
+        Ok(plan) => Ok(decide(plan)),
+        Err(refusal) => Err(*refusal),
+    }
 }
 
 // One case of a job.
 pub fn one_case(job: &[u8], case: usize) -> Result<CaseAnswer, Refusal>
     ensures { stated_case_checked result ≡ one_case_answer job.now case }
 {
-    let plan = make_ready(job)?;
-    known_case(&plan, case)?;
-    Ok(case_answer(&plan, case))
+    let ready = make_ready(job);
+    let plan = match &ready {
+        Ok(plan) => plan,
+        Err(refusal) => return Err(*refusal),
+    };
+    known_case(plan, case)?;
+    Ok(case_answer(plan, case))
 }
 
 // The row of a case at a time, also past the job's last one: a byte for each node, 0, 1, or 2 for X. Numbers and room stand by
@@ -98,12 +105,16 @@ pub fn one_case(job: &[u8], case: usize) -> Result<CaseAnswer, Refusal>
 pub fn row(job: &[u8], case: usize, time: usize, out: &mut [u8]) -> Result<usize, Refusal>
     ensures { GivesRow job.now case time out.old out.new result }
 {
-    let plan = make_ready(job)?;
+    let ready = make_ready(job);
+    let plan = match &ready {
+        Ok(plan) => plan,
+        Err(refusal) => return Err(*refusal),
+    };
     let n = plan.size.n;
-    known_case(&plan, case)?;
+    known_case(plan, case)?;
     Reason::Time.unless(time <= 255)?;
     Reason::Room.unless(n <= out.len())?;
-    let Some(row) = case_row(&plan, case, time) else {
+    let Some(row) = case_row(plan, case, time) else {
         return Err(Refusal::whole(Reason::Empty));
     };
     out[..n].copy_from_slice(&row[..n]);

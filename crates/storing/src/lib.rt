@@ -18,7 +18,8 @@ pub struct Records<'a> {
 }
 
 impl Records<'_> {
-    ghost use Rattle.std.specs.Prelude.{◌≡◌, ◌+◌, ◌*◌, ◌<◌, ◌≤◌, ◌++◌, length, drop};
+    ghost use Rattle.std.specs.Prelude.{◌≡◌, ◌+◌, ◌*◌, ◌/◌, ◌%◌, ◌<◌, ◌≤◌, ◌++◌, length, drop};
+    ghost use Rattle.scans.specs.Lists.{list_of};
     ghost use Rattle.stored.specs.Bytes.{word_of};
     ghost use Rattle.stored.specs.Layout.{sizes_of, blocks_of, header_record, plain_byte, check_word, block_byte, stored};
     ghost use Rattle.storing.specs.Steps.{records_in};
@@ -89,15 +90,17 @@ impl Records<'_> {
         u32::MAX - words_sum(127, |i| self.plain_word(b, i))
     }
 
+    // Byte `o` of block `b`, whose check is handed over where the byte is one of its own.
     #[tactic(auto, unfolding(stored::specs::Layout::block_byte))]
-    fn block_byte(&self, b: u16, o: usize) -> u8
-        requires { o < 512 }
+    fn block_byte(&self, b: u16, o: usize, check: u32) -> u8
+        requires within { o < 512 }
+        requires checked { 508 ≤ o → check ≡ check_word (plain_byte (records_in self.now) b) }
         ensures { result ≡ block_byte (records_in self.now) b o }
     {
         if o < 508 {
             self.plain_byte(b, o)
         } else {
-            self.check_word(b).to_le_bytes()[o - 508]
+            check.to_le_bytes()[o - 508]
         }
     }
 
@@ -108,13 +111,27 @@ impl Records<'_> {
         512 * self.layout.block_count()
     }
 
-    #[tactic(auto, using(scans::proofs::Lists::filling), unfolding(stored::specs::Layout::stored))]
+    // The first `size` bytes of the stored job. A block's check is worked out once, at the first of its bytes.
+    pub fn write_front(&self, size: usize, out: &mut [u8])
+        requires { (size ≤ length out.old) × (size < 16777216) }
+        ensures { out.new ≡ list_of (λ j. block_byte (records_in self.now) (j / 512) (j % 512)) size ++ drop size out.old }
+    {
+        let mut check = 0;
+        for j in 0..size {
+            let b = (j / 512) as u16;
+            let o = j % 512;
+            if o == 508 {
+                check = self.check_word(b);
+            }
+            out[j] = self.block_byte(b, o, check);
+        }
+    }
+
+    #[tactic(auto, unfolding(stored::specs::Layout::stored))]
     pub fn write(&self, out: &mut [u8])
         requires { 512 * blocks_of (sizes_of (records_in self.now)) ≤ length out.old }
         ensures { out.new ≡ stored (records_in self.now) ++ drop (512 * blocks_of (sizes_of (records_in self.now))) out.old }
     {
-        for j in 0..self.size() {
-            out[j] = self.block_byte((j / 512) as u16, j % 512);
-        }
+        self.write_front(self.size(), out);
     }
 }
