@@ -31,7 +31,7 @@ impl Records {
     }
 
     pub fn count(&self) -> usize
-        ensures { 8 * result ≡ length self.now }
+        ensures { (8 * result ≡ length self.now) × (result ≤ 504) }
     {
         self.list.len()
     }
