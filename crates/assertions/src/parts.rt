@@ -44,4 +44,5 @@ pub struct Told {
     pub time: usize,
     pub at: usize,
     pub ghost binary: { value < 2 },
+    pub ghost in_time: { time < 256 },
 }
