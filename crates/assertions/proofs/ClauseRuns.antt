@@ -24,7 +24,7 @@ use Rattle.phrases.proofs.Standing.{stands, stands_not}
 use Rattle.phrases.proofs.Feeding.{run_past, run_mark, mark_goes}
 use Rattle.phrases.proofs.OperandLaws.{no_opening}
 use Rattle.phrases.proofs.FrameLaws.{having_over}
-use Rattle.phrases.proofs.LevelLaws.{wanted, had}
+use Rattle.phrases.proofs.LevelLaws.{wanted, had, one_record}
 use Rattle.phrases.proofs.Stopping.{touching_stops}
 use Rattle.phrases.proofs.WordRuns.{word_goes, word_stops}
 
@@ -90,15 +90,17 @@ module _ {k n i q : ℕ} {text es cs : List ℕ} {t : Bool} (sk : Skips text i q
         pub rest_none : {j : ℕ} → ToldNone text false (clause_slots n) [] (r + 1) j → ClauseNone (guarding []) true k n i text es cs j
         rest_none x = record { comes = λ p _. passed k n sk t-is h p g ∙ colon_goes k n text p (records_in es') g.guard s ∙ x.comes k n p (records_in es') g.guard }
 
-        pub rest_to : (place : ℕ) {cs' : List ℕ} {side node value time u : ℕ} → ToldTo text false (clause_slots n) [] (r + 1) node value time u → 8 * (place + 1) ≡ length es' → cs' ≡ cs ++ clause_bytes side value node time place
+        pub rest_to : records_in cs < 504 → (place : ℕ) {cs' : List ℕ} {side node value time u : ℕ} → ToldTo text false (clause_slots n) [] (r + 1) node value time u → 8 * (place + 1) ≡ length es' → cs' ≡ cs ++ clause_bytes side value node time place
             → ClauseTo (guarding []) true k n side i text es es' cs cs' u
-        rest_to place {cs'} {side} {node} {value} {time} {u} x counted put =
+        rest_to room place {cs'} {side} {node} {value} {time} {u} x counted put =
             let place_is : place ≡ guard_place (records_in es) g.guard = omega (arith, g.count) in
             record {
               clause = record { guard = g.guard; node = node; value = value; time = time };
               past = omega (arith, sk.forward, g.past, x.past);
               inside = x.inside;
               count = g.count;
+              few_e = omega (arith, g.few);
+              few_c = omega (arith, one_record cs (clause_bytes side value node time place) put refl);
               put_guard = g.put;
               put_clause = put ∙ ap (λ a. cs ++ clause_bytes side value node time a) place_is;
               comes = λ p _. passed k n sk t-is h p g ∙ colon_goes k n text p (records_in es') g.guard s ∙ x.comes k n p (records_in es') g.guard;
@@ -122,6 +124,8 @@ module _ {k n i : ℕ} {text es cs : List ℕ} (asked : ClauseAsked i text es cs
           past = omega (arith, sp.q_is, y.past);
           inside = y.inside;
           count = y.count;
+          few_e = y.few_e;
+          few_c = y.few_c;
           put_guard = y.put_guard;
           put_clause = y.put_clause;
           comes = λ p same. when_read k n asked sp p same ∙ y.comes p same;

@@ -61,15 +61,17 @@ listing_stops k n text p used {i} open-yet clean no-expect no_when = nothing_goe
     no_word AT s = refl
 
 -- no clause yet
-pub list_none : {k n i q : ℕ} {text es cs : List ℕ} (side : ℕ) → Skips text i q → ListTo k n side i text es es cs cs q
+pub list_none : {k n i q : ℕ} {text es cs : List ℕ} (side : ℕ) → (records_in es ≤ 504) × (records_in cs ≤ 504) → Skips text i q → ListTo k n side i text es es cs cs q
 unfolding sizes list_expressions list_clauses
-list_none {k} {n} {i} {q} {text} {es} {cs} side sk =
+list_none {k} {n} {i} {q} {text} {es} {cs} side few sk =
     record {
       clauses = [];
       inside = sk.inside;
       no_gap = sk.ends;
       count_e = omega arith;
       count_c = omega arith;
+      few_e = few.0;
+      few_c = few.1;
       put_e = sym (append-nil es);
       put_c = sym (append-nil cs);
       comes = λ p same. run_gaps k n text (in_phase p (records_in es) listing) sk ∙ ap (reading k n text q (ready false)) (sym (none_added p.second p.given p.expect (records_in es)));
@@ -90,6 +92,8 @@ module _ {k n side i q : ℕ} {text es es₁ cs cs₁ : List ℕ} (l : ListTo k 
         no_gap = sk.ends;
         count_e = omega (arith, x.count, l.count_e, sizes_snoc here x.clause);
         count_c = omega (arith, l.count_c, length-append here (x.clause ∷ []), one_record cs₁ _ x.put_clause refl);
+        few_e = x.few_e;
+        few_c = x.few_c;
         put_e = expressions_put (records_in es) es here x.clause l.put_e (rw e_is at x.put_guard);
         put_c = clauses_put side (records_in es) cs here x.clause l.put_c (rw e_is at x.put_clause);
         comes = λ p same.

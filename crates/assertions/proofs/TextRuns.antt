@@ -120,7 +120,14 @@ module _ {k n i : ℕ} {text es cs : List ℕ} where
 
         pub rest_ends : length text ≤ u → RestTo k n i text es es' cs cs'
         rest_ends over =
-            record { expect = l.to.clauses; put_e = l.to.put_e; put_c = l.to.put_c; comes = λ gs same. listed gs same ∙ text_ends k n text gs (records_in es) (records_in es') l.to.clauses over }
+            record {
+              expect = l.to.clauses;
+              few_e = l.to.few_e;
+              few_c = l.to.few_c;
+              put_e = l.to.put_e;
+              put_c = l.to.put_c;
+              comes = λ gs same. listed gs same ∙ text_ends k n text gs (records_in es) (records_in es') l.to.clauses over;
+            }
 
 -- `given` and its list, and the rest, where nothing has been read
 module _ {k n i : ℕ} {text : List ℕ} (sk : Skips text 0 i) where
@@ -153,6 +160,8 @@ module _ {k n i : ℕ} {text : List ℕ} (sk : Skips text 0 i) where
             let e_is : records_in es₁ ≡ sizes before.clauses = omega (arith, before.count_e) in
             record {
               t = record { given = before.clauses; expect = y.expect };
+              few_e = y.few_e;
+              few_c = y.few_c;
               es_are = (rw e_is at y.put_e) ∙ ap (λ l. l ++ list_expressions (sizes before.clauses) y.expect) before.put_e;
               cs_are = (rw e_is at y.put_c) ∙ ap (λ l. l ++ list_clauses 1 (sizes before.clauses) y.expect) before.put_c;
               comes = on_rest ∙ y.comes before.clauses given_count;

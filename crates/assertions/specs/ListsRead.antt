@@ -27,6 +27,8 @@ pub record ClauseTo (phase : Phase) (touching : Bool) (k n side i : ℕ) (text e
   pub past : i < q
   pub inside : q ≤ length text
   pub count : records_in es' ≡ records_in es + size clause.guard
+  pub few_e : records_in es' ≤ 504
+  pub few_c : records_in cs' ≤ 504
   pub put_guard : es' ≡ es ++ guard_records (records_in es) clause.guard
   pub put_clause : cs' ≡ cs ++ clause_record side (records_in es) clause
   pub comes : (p : Point) → count_of p ≡ records_in cs → reading k n text i (ready touching) (in_phase p (records_in es) phase) ≡ reading k n text q (ready false) (clause_added p (records_in es') clause)
@@ -55,6 +57,8 @@ pub record ListTo (k n side i : ℕ) (text es es' cs cs' : List ℕ) (q : ℕ) :
   pub no_gap : NoGap text q
   pub count_e : records_in es' ≡ records_in es + sizes clauses
   pub count_c : records_in cs' ≡ records_in cs + length clauses
+  pub few_e : records_in es' ≤ 504
+  pub few_c : records_in cs' ≤ 504
   pub put_e : es' ≡ es ++ list_expressions (records_in es) clauses
   pub put_c : cs' ≡ cs ++ list_clauses side (records_in es) clauses
   pub comes : (p : Point) → count_of p ≡ records_in cs → reading k n text i (ready false) (in_phase p (records_in es) listing) ≡ reading k n text q (ready false) (list_added p (records_in es') clauses)

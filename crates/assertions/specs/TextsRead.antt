@@ -1,6 +1,6 @@
 -- What reading the lists of a text and the whole of it comes to.
 -- Assumes nothing.
-use Rattle.std.specs.Prelude.{◌≡◌, Bool, false, List, [], ◌++◌, ℕ, length, Result, MatchResult}
+use Rattle.std.specs.Prelude.{◌≡◌, Bool, false, List, [], ◌++◌, ℕ, ◌≤◌, length, Result, MatchResult}
 use Rattle.phrases.specs.declared.items.Stopped.{Stopped}
 use Rattle.phrases.specs.GuardsRead.{records_in}
 use Rattle.grammar.specs.Grammar.{Clause, Text}
@@ -15,6 +15,8 @@ listing_at second gs used = record { second = second; given = gs; expect = []; u
 -- whatever clauses were given, the rest of the text, from i on, is `expect` and the expected ones
 pub record RestTo (k n i : ℕ) (text es es' cs cs' : List ℕ) : Type 0 where
   pub expect : List Clause
+  pub few_e : records_in es' ≤ 504
+  pub few_c : records_in cs' ≤ 504
   pub put_e : es' ≡ es ++ list_expressions (records_in es) expect
   pub put_c : cs' ≡ cs ++ list_clauses 1 (records_in es) expect
   pub comes : (gs : List Clause) → length gs ≡ records_in cs → reading k n text i (ready false) (listing_at false gs (records_in es)) ≡ reads (record { given = gs; expect = expect })
@@ -28,6 +30,8 @@ pub record RestAt (k n i : ℕ) (text es es' cs cs' : List ℕ) (r : Result (Uni
 -- the text is t, and its records are these
 pub record TextTo (k n : ℕ) (text es cs : List ℕ) : Type 0 where
   pub t : Text
+  pub few_e : records_in es ≤ 504
+  pub few_c : records_in cs ≤ 504
   pub es_are : es ≡ text_expressions t
   pub cs_are : cs ≡ text_clauses t
   pub comes : reading k n text 0 (ready false) start ≡ reads t

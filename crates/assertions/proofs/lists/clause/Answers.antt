@@ -39,10 +39,10 @@ returns-in_err-told c =
     (record { says = when_then_none c.requires.0 w (rest_none c.skip-from.ensures c.guard_touches.ensures c.if-guard_touches.false c.in_ok-colon.ensures.says (stands c.is_at.ensures c.if-not-is_at.false) c.in_err-told.ensures.says) })
 
 pub overflow_sub-guard : goal.overflow_sub-guard
-overflow_sub-guard c = omega (arith, c.count-guard.ensures, c.in_ok-colon.ensures.says.count, size_some c.in_ok-colon.ensures.says.guard)
+overflow_sub-guard c = omega (arith, c.count-guard.ensures.0, c.in_ok-colon.ensures.says.count, size_some c.in_ok-colon.ensures.says.guard)
 
 pub returns : goal.returns
 unfolding letters
 returns c =
     let w = c.in_ok-end.ensures.says in
-    record { says = when_to c.requires.0 w (rest_to c.skip-from.ensures c.guard_touches.ensures c.if-guard_touches.false c.in_ok-colon.ensures.says (stands c.is_at.ensures c.if-not-is_at.false) _ c.in_ok-told.ensures.says (omega (arith, c.count-guard.ensures, c.in_ok-colon.ensures.says.count, size_some c.in_ok-colon.ensures.says.guard)) (rw c.clause_record.ensures at c.push.ensures)) }
+    record { says = when_to c.requires.0 w (rest_to c.skip-from.ensures c.guard_touches.ensures c.if-guard_touches.false c.in_ok-colon.ensures.says (stands c.is_at.ensures c.if-not-is_at.false) c.requires.0.room_c _ c.in_ok-told.ensures.says (omega (arith, c.count-guard.ensures.0, c.in_ok-colon.ensures.says.count, size_some c.in_ok-colon.ensures.says.guard)) (rw c.clause_record.ensures at c.push.ensures)) }
