@@ -4,7 +4,10 @@ use mathlib.Core.Path.{◌≡◌, refl, sym, ◌∙◌, ap}
 use mathlib.Core.List.{List, ◌∷◌, ◌++◌, append_assoc}
 use native.Mathlib.Omega.{arith}
 use Prim.Native.Nat.{ℕ, suc, ◌+◌, ◌*◌, ◌≤◌, ◌<◌}
-use lib.ListN.{length, length-append}
+use lib.ListN.{length, take, drop, length-append, take-append-drop}
+use lib.Seq.{take-append_seam, take-length}
+use Rattle.std.specs.Prelude.{Ok, Err}
+use Rattle.phrases.specs.declared.items.Stopped.{Stopped}
 use Rattle.phrases.specs.declared.guards.Operand.{Operand}
 use Rattle.phrases.specs.declared.guards.Operand.TheVariants.{False, True, Variable}
 use Rattle.phrases.specs.Operands.{OperandHere, NoOperand, operand_record}
@@ -12,7 +15,7 @@ use Rattle.grammar.specs.Guards.{Guard, letter, constant, complement, bracketed,
 use Rattle.grammar.specs.Records.{expression_record, guard_place, guard_records}
 use Rattle.grammar.specs.Points.{Frame, negating, grouping, groups, guarded, Point}
 use Rattle.phrases.specs.Places.{Stands, Skips}
-use Rattle.phrases.specs.GuardsRead.{in_phase, wanting, having, Over, GuardTo, GuardNone, GuardAsked, records_in}
+use Rattle.phrases.specs.GuardsRead.{in_phase, wanting, having, Over, GuardTo, GuardNone, GuardAt, GuardAsked, records_in}
 use Rattle.grammar.proofs.Frames.{strength_to, fresh_grouping, fresh_4}
 use Rattle.phrases.proofs.Feeding.{run_gaps}
 use Rattle.phrases.proofs.OperandLaws.{letter_goes, constant_goes, wanting_stops}
@@ -32,6 +35,26 @@ module _ (k n : ℕ) (text : List ℕ) (i : ℕ) (p : Point) (fs : List Frame) {
 -- one record more
 pub one_record : (es r : List ℕ) {es' : List ℕ} → es' ≡ es ++ r → length r ≡ 8 → records_in es' ≡ records_in es + 1
 one_record es r put l = omega (arith, ap length put, length-append es r)
+
+-- what was read before stays in front
+module _ {s r k depth pending i q : ℕ} {text es es₁ : List ℕ} (g : GuardTo s r k depth pending i text es es₁ q) where
+  pub kept_by : take (length es) es₁ ≡ es
+  kept_by = rw g.put (take-append_seam es (guard_records (records_in es) g.guard))
+
+  -- and what comes after that leaves it there
+  pub kept_then : (es₂ : List ℕ) → take (length es₁) es₂ ≡ es₁ → take (length es) es₂ ≡ es
+  kept_then es₂ kept =
+      let rest = drop (length es₁) es₂ in
+      let all : es₂ ≡ es ++ (guard_records (records_in es) g.guard ++ rest) =
+      sym (take-append-drop (length es₁) es₂) ∙ ap (λ l. l ++ rest) (kept ∙ g.put) ∙ append_assoc es (guard_records (records_in es) g.guard) rest in
+      ap (take (length es)) all ∙ take-append_seam es (guard_records (records_in es) g.guard ++ rest)
+
+pub guard_read : {s k depth pending i q : ℕ} {text es es' : List ℕ} → GuardTo s s k depth pending i text es es' q → GuardAt s k depth pending i text es es' (Ok q)
+guard_read g = record { says = g; kept = kept_by g; few = omega (arith, g.few) }
+
+-- nothing was read
+pub guard_unread : {s k depth pending i : ℕ} {text es : List ℕ} {j : Stopped} → GuardAsked pending i text es → GuardNone s k depth pending i text es j.at → GuardAt s k depth pending i text es es (Err j)
+guard_unread {es = es} asked g = record { says = g; kept = take-length es; few = omega (arith, asked.one_more) }
 
 module _ {k depth pending i : ℕ} {text es : List ℕ} (asked : GuardAsked pending i text es) where
   -- an operand

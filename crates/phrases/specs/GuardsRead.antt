@@ -1,6 +1,6 @@
 -- What reading a guard at a place comes to, for each strength of operator.
 -- Assumes nothing.
-use Rattle.std.specs.Prelude.{◌≡◌, false, List, ℕ, ◌+◌, ◌/◌, ◌≤◌, ◌<◌, ◌++◌, length, drop, Result, MatchResult}
+use Rattle.std.specs.Prelude.{◌≡◌, false, List, ℕ, ◌+◌, ◌/◌, ◌≤◌, ◌<◌, ◌++◌, length, take, drop, Result, MatchResult}
 use Rattle.stored.specs.Bytes.{byte_at}
 use Rattle.phrases.specs.declared.items.Stopped.{Stopped}
 use Rattle.grammar.specs.Items.{Operator, SIGN, mark_byte}
@@ -47,8 +47,11 @@ pub record GuardTo (s r k depth pending i : ℕ) (text es es' : List ℕ) (q : �
 pub record GuardNone (s k depth pending i : ℕ) (text es : List ℕ) (j : ℕ) : Type 0 where
   pub comes : (n : ℕ) (p : Point) (fs : List Frame) → groups fs ≡ depth → Fresh s fs → wanting k n text i p (records_in es + pending) fs ≡ stops j
 
+-- one of the two; either way what was read before stays in front, and the list holds 504 records at most
 pub record GuardAt (s k depth pending i : ℕ) (text es es' : List ℕ) (r : Result ℕ Stopped) : Type 0 where
   pub says : MatchResult r (GuardTo s s k depth pending i text es es') (λ j. GuardNone s k depth pending i text es j.at)
+  pub kept : take (length es) es' ≡ es
+  pub few : records_in es' ≤ 504
 
 -- what a guard is read with: a place without a gap, room for one operand more
 pub record GuardAsked (pending i : ℕ) (text es : List ℕ) : Type 0 where

@@ -13,10 +13,10 @@ use crate::records::{Records, two_bytes};
 
 // What stands around an operand: the variables that it may name, the brackets open, and the operators that wait for it.
 #[derive(Clone, Copy, Debug, PartialEq, Eq)]
-struct Nesting {
-    k: usize,
-    depth: usize,
-    pending: usize,
+pub struct Nesting {
+    pub k: usize,
+    pub depth: usize,
+    pub pending: usize,
     ghost few_variables: { k ≤ 12 },
     ghost opened: { depth ≤ 32 },
 }
@@ -112,7 +112,15 @@ pub fn guard(text: &[u8], at: usize, k: usize, es: &mut Records) -> Result<usize
         depth: 0,
         pending: 0,
     };
-    joined(text, at, outermost, es, Operator::Or)
+    either(text, at, outermost, es)
+}
+
+// A guard inside others: with its variables, the brackets open around it, and the operators that wait for it.
+pub fn either(text: &[u8], at: usize, around: Nesting, es: &mut Records) -> Result<usize, Stopped>
+    requires { GuardAsked around.pending at text.now es.old }
+    ensures { GuardAt 1 around.k around.depth around.pending at text.now es.old es.new result }
+{
+    joined(text, at, around, es, Operator::Or)
 }
 
 // side (operator side)*
