@@ -27,7 +27,7 @@ kept k n l = (limits_rule (record { k = k; n = n; e = 0; c = 0 })).0 l
 pub limits_few : (k n : ℕ) {t : Bool} → t ≡ limits k n → t ≡ true → (k ≤ 12) × (n ≤ 65536)
 limits_few k n t-is h = let l = kept k n (within k n t-is h) in (l.k_most, omega (arith, l.n_most))
 
-pub refused_text : (k n : ℕ) {text expressions clauses : List ℕ} {j : ℕ} {t : Bool} → t ≡ limits k n → t ≡ true → TextNone k n text j → Answered k n text expressions clauses expressions clauses (Err (Text j))
+pub refused_text : (k n : ℕ) {text es cs expressions clauses : List ℕ} {j : ℕ} {t : Bool} → t ≡ limits k n → t ≡ true → TextNone k n text es cs j → Answered k n text expressions clauses expressions clauses (Err (Text j))
 refused_text k n {text} t-is h x =
     let w = within k n t-is h in
     let l = kept k n w in

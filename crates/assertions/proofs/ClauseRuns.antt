@@ -18,13 +18,14 @@ use Rattle.grammar.specs.Bytewise.{ready, stops, reading}
 use Rattle.phrases.specs.Places.{is_at, Stands, Skips, Broken, Spelt}
 use Rattle.phrases.specs.GuardsRead.{in_phase, wanting, having, Over, GuardTo, GuardNone, records_in}
 use Rattle.assertions.specs.ClausesRead.{awaiting, ToldTo, ToldNone}
-use Rattle.assertions.specs.ListsRead.{count_of, ClauseAsked, ClauseTo, ClauseNone}
+use Rattle.assertions.specs.ListsRead.{count_of, ClauseAsked, ClauseTo, Kept, ClauseNone}
+use Rattle.assertions.proofs.Keeping.{kept_same, kept_put}
 use Rattle.grammar.proofs.Frames.{fresh_none}
 use Rattle.phrases.proofs.Standing.{stands, stands_not}
 use Rattle.phrases.proofs.Feeding.{run_past, run_mark, mark_goes}
 use Rattle.phrases.proofs.OperandLaws.{no_opening}
 use Rattle.phrases.proofs.FrameLaws.{having_over}
-use Rattle.phrases.proofs.LevelLaws.{wanted, had}
+use Rattle.phrases.proofs.LevelLaws.{wanted, had, one_record}
 use Rattle.phrases.proofs.Stopping.{touching_stops}
 use Rattle.phrases.proofs.WordRuns.{word_goes, word_stops}
 
@@ -73,22 +74,33 @@ module _ (k n : ℕ) {i q : ℕ} {text : List ℕ} {t : Bool} (sk : Skips text i
   unfolding groups
   passed {es} {r = r} g = begun (records_in es) ∙ g.comes n p [] refl (fresh_none 1) ∙ had k n text r p [] (omega arith) g.guard
 
-module _ {k n i q : ℕ} {text es cs : List ℕ} {t : Bool} (sk : Skips text i q) (t-is : t ≡ eqb q i && (not (is_at text q 33) && not (is_at text q 40))) where
-  pub touched_none : t ≡ true → ClauseNone (guarding []) true k n i text es cs q
-  touched_none h = record { comes = λ p _. touched_stops k n text p (records_in es) sk (sym t-is ∙ h) }
+-- what stays in both lists
+module _ {i : ℕ} {text es cs : List ℕ} (asked : ClauseAsked i text es cs) where
+  expressions_kept : Kept es es
+  expressions_kept = kept_same es (omega (arith, asked.room_e))
+
+  clauses_kept : Kept cs cs
+  clauses_kept = kept_same cs (omega (arith, asked.room_c))
+
+guard_kept : {k i q : ℕ} {text es es' : List ℕ} → GuardTo 1 1 k 0 0 i text es es' q → Kept es es'
+guard_kept {es = es} g = kept_put es _ g.put (omega (arith, g.few))
+
+module _ {k n a i q : ℕ} {text es cs : List ℕ} {t : Bool} (asked : ClauseAsked a text es cs) (sk : Skips text i q) (t-is : t ≡ eqb q i && (not (is_at text q 33) && not (is_at text q 40))) where
+  pub touched_none : t ≡ true → ClauseNone (guarding []) true k n i text es es cs cs q
+  touched_none h = record { kept_e = expressions_kept asked; kept_c = clauses_kept asked; comes = λ p _. touched_stops k n text p (records_in es) sk (sym t-is ∙ h) }
 
   module _ (h : t ≡ false) where
-    pub guard_none : {j : ℕ} → GuardNone 1 k 0 0 q text es j → ClauseNone (guarding []) true k n i text es cs j
+    pub guard_none : {es' : List ℕ} {j : ℕ} → Kept es es' → GuardNone 1 k 0 0 q text es j → ClauseNone (guarding []) true k n i text es es' cs cs j
     unfolding groups
-    guard_none g = record { comes = λ p _. begun k n sk t-is h p (records_in es) ∙ g.comes n p [] refl (fresh_none 1) }
+    guard_none kept g = record { kept_e = kept; kept_c = clauses_kept asked; comes = λ p _. begun k n sk t-is h p (records_in es) ∙ g.comes n p [] refl (fresh_none 1) }
 
     module _ {es' : List ℕ} {r : ℕ} (g : GuardTo 1 1 k 0 0 q text es es' r) where
-      pub colon_none : ¬ Stands text r 58 → ClauseNone (guarding []) true k n i text es cs r
-      colon_none s = record { comes = λ p _. passed k n sk t-is h p g ∙ colon_stops k n text p (records_in es') g.guard g.over s }
+      pub colon_none : ¬ Stands text r 58 → ClauseNone (guarding []) true k n i text es es' cs cs r
+      colon_none s = record { kept_e = guard_kept g; kept_c = clauses_kept asked; comes = λ p _. passed k n sk t-is h p g ∙ colon_stops k n text p (records_in es') g.guard g.over s }
 
       module _ (s : Stands text r 58) where
-        pub rest_none : {j : ℕ} → ToldNone text false (clause_slots n) [] (r + 1) j → ClauseNone (guarding []) true k n i text es cs j
-        rest_none x = record { comes = λ p _. passed k n sk t-is h p g ∙ colon_goes k n text p (records_in es') g.guard s ∙ x.comes k n p (records_in es') g.guard }
+        pub rest_none : {j : ℕ} → ToldNone text false (clause_slots n) [] (r + 1) j → ClauseNone (guarding []) true k n i text es es' cs cs j
+        rest_none x = record { kept_e = guard_kept g; kept_c = clauses_kept asked; comes = λ p _. passed k n sk t-is h p g ∙ colon_goes k n text p (records_in es') g.guard s ∙ x.comes k n p (records_in es') g.guard }
 
         pub rest_to : (place : ℕ) {cs' : List ℕ} {side node value time u : ℕ} → ToldTo text false (clause_slots n) [] (r + 1) node value time u → 8 * (place + 1) ≡ length es' → cs' ≡ cs ++ clause_bytes side value node time place
             → ClauseTo (guarding []) true k n side i text es es' cs cs' u
@@ -99,6 +111,8 @@ module _ {k n i q : ℕ} {text es cs : List ℕ} {t : Bool} (sk : Skips text i q
               past = omega (arith, sk.forward, g.past, x.past);
               inside = x.inside;
               count = g.count;
+              few_e = omega (arith, g.few);
+              few_c = omega (arith, asked.room_c, one_record cs (clause_bytes side value node time place) put refl);
               put_guard = g.put;
               put_clause = put ∙ ap (λ a. cs ++ clause_bytes side value node time a) place_is;
               comes = λ p _. passed k n sk t-is h p g ∙ colon_goes k n text p (records_in es') g.guard s ∙ x.comes k n p (records_in es') g.guard;
@@ -110,9 +124,14 @@ when_read : (k n : ℕ) {i q : ℕ} {text es cs : List ℕ} → ClauseAsked i te
 when_read k n {text = text} {es} asked sp p same = word_goes k n text (in_phase p (records_in es) listing) WHEN (when_steps k n text p (records_in es) same asked.room_e asked.room_c) sp
 
 module _ {k n i : ℕ} {text es cs : List ℕ} (asked : ClauseAsked i text es cs) where
-  pub when_none : {j : ℕ} → Stands text i 119 → Broken text i (letters WHEN) j → ClauseNone listing false k n i text es cs j
+  pub when_none : {j : ℕ} → Stands text i 119 → Broken text i (letters WHEN) j → ClauseNone listing false k n i text es es cs cs j
   unfolding letters
-  when_none s b = record { comes = λ p same. word_stops k n text (in_phase p (records_in es) listing) WHEN (when_steps k n text p (records_in es) same asked.room_e asked.room_c) (λ f. absurd (f s)) b }
+  when_none s b =
+      record {
+        kept_e = expressions_kept asked;
+        kept_c = clauses_kept asked;
+        comes = λ p same. word_stops k n text (in_phase p (records_in es) listing) WHEN (when_steps k n text p (records_in es) same asked.room_e asked.room_c) (λ f. absurd (f s)) b;
+      }
 
   module _ {q : ℕ} (sp : Spelt text i (letters WHEN) q) where
     pub when_to : {es' cs' : List ℕ} {side u : ℕ} → ClauseTo (guarding []) true k n side q text es es' cs cs' u → ClauseTo listing false k n side i text es es' cs cs' u
@@ -122,10 +141,12 @@ module _ {k n i : ℕ} {text es cs : List ℕ} (asked : ClauseAsked i text es cs
           past = omega (arith, sp.q_is, y.past);
           inside = y.inside;
           count = y.count;
+          few_e = y.few_e;
+          few_c = y.few_c;
           put_guard = y.put_guard;
           put_clause = y.put_clause;
           comes = λ p same. when_read k n asked sp p same ∙ y.comes p same;
         }
 
-    pub when_then_none : {j : ℕ} → ClauseNone (guarding []) true k n q text es cs j → ClauseNone listing false k n i text es cs j
-    when_then_none y = record { comes = λ p same. when_read k n asked sp p same ∙ y.comes p same }
+    pub when_then_none : {es' cs' : List ℕ} {j : ℕ} → ClauseNone (guarding []) true k n q text es es' cs cs' j → ClauseNone listing false k n i text es es' cs cs' j
+    when_then_none y = record { kept_e = y.kept_e; kept_c = y.kept_c; comes = λ p same. when_read k n asked sp p same ∙ y.comes p same }

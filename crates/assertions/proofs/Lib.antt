@@ -1,5 +1,6 @@
 pub mod SlotRuns
 pub mod TellRuns
+pub mod Keeping
 pub mod ClauseRuns
 pub mod ListRuns
 pub mod TextRuns

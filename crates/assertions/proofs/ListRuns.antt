@@ -24,6 +24,7 @@ use Rattle.grammar.proofs.Steps.{length_added, none_added, more_added, sizes_sno
 use Rattle.phrases.proofs.Feeding.{run_gaps}
 use Rattle.phrases.proofs.LevelLaws.{one_record}
 use Rattle.phrases.proofs.Stopping.{nothing_goes}
+use Rattle.assertions.proofs.Keeping.{kept_put, kept_on}
 
 -- one clause more at the end of a list
 expressions_more : (e : ℕ) (l : List Clause) (x : Clause) → list_expressions e (l ++ x ∷ []) ≡ list_expressions e l ++ guard_records (e + sizes l) x.guard
@@ -61,15 +62,17 @@ listing_stops k n text p used {i} open-yet clean no-expect no_when = nothing_goe
     no_word AT s = refl
 
 -- no clause yet
-pub list_none : {k n i q : ℕ} {text es cs : List ℕ} (side : ℕ) → Skips text i q → ListTo k n side i text es es cs cs q
+pub list_none : {k n i q : ℕ} {text es cs : List ℕ} (side : ℕ) → (records_in es ≤ 504) × (records_in cs ≤ 504) → Skips text i q → ListTo k n side i text es es cs cs q
 unfolding sizes list_expressions list_clauses
-list_none {k} {n} {i} {q} {text} {es} {cs} side sk =
+list_none {k} {n} {i} {q} {text} {es} {cs} side few sk =
     record {
       clauses = [];
       inside = sk.inside;
       no_gap = sk.ends;
       count_e = omega arith;
       count_c = omega arith;
+      few_e = few.0;
+      few_c = few.1;
       put_e = sym (append-nil es);
       put_c = sym (append-nil cs);
       comes = λ p same. run_gaps k n text (in_phase p (records_in es) listing) sk ∙ ap (reading k n text q (ready false)) (sym (none_added p.second p.given p.expect (records_in es)));
@@ -90,6 +93,8 @@ module _ {k n side i q : ℕ} {text es es₁ cs cs₁ : List ℕ} (l : ListTo k 
         no_gap = sk.ends;
         count_e = omega (arith, x.count, l.count_e, sizes_snoc here x.clause);
         count_c = omega (arith, l.count_c, length-append here (x.clause ∷ []), one_record cs₁ _ x.put_clause refl);
+        few_e = x.few_e;
+        few_c = x.few_c;
         put_e = expressions_put (records_in es) es here x.clause l.put_e (rw e_is at x.put_guard);
         put_c = clauses_put side (records_in es) cs here x.clause l.put_c (rw e_is at x.put_clause);
         comes = λ p same.
@@ -98,8 +103,13 @@ module _ {k n side i q : ℕ} {text es es₁ cs cs₁ : List ℕ} (l : ListTo k 
             ∙ ap (reading k n text v (ready false)) (more_added p.second p.given p.expect here (x.clause ∷ []) (records_in es₂));
       }
 
-  pub list_stops : {j : ℕ} → ClauseNone listing false k n q text es₁ cs₁ j → ListNone k n i text es cs j
-  list_stops x = record { comes = λ p same. l.comes p same ∙ x.comes (list_added p (records_in es₁) l.clauses) (counted p same) }
+  pub list_stops : {es₂ cs₂ : List ℕ} {j : ℕ} → ClauseNone listing false k n q text es₁ es₂ cs₁ cs₂ j → ListNone k n i text es es₂ cs cs₂ j
+  list_stops x =
+      record {
+        kept_e = kept_on es _ l.put_e x.kept_e;
+        kept_c = kept_on cs _ l.put_c x.kept_c;
+        comes = λ p same. l.comes p same ∙ x.comes (list_added p (records_in es₁) l.clauses) (counted p same);
+      }
 
   -- no room for one more
   no_room : (p : Point) → count_of p ≡ records_in cs₁ → ¬ ((records_in es₁ < 504) × (records_in cs₁ < 504)) → step k n (in_phase p (records_in es₁) listing) (word WHEN) ≡ none
@@ -111,9 +121,11 @@ module _ {k n side i q : ℕ} {text es es₁ cs cs₁ : List ℕ} (l : ListTo k 
       go (no a) (yes b) = rw (lt-ltb (count_of p) 504 b, lt-leb (records_in es₁ + 1) 504 (omega arith))
       go (yes a) (yes b) = absurd (full (a, omega arith))
 
-  pub list_full : Stands text q 119 → ¬ ((records_in es₁ < 504) × (records_in cs₁ < 504)) → ListNone k n i text es cs q
+  pub list_full : Stands text q 119 → ¬ ((records_in es₁ < 504) × (records_in cs₁ < 504)) → ListNone k n i text es es₁ cs cs₁ q
   list_full s full =
       record {
+        kept_e = kept_put es _ l.put_e l.few_e;
+        kept_c = kept_put cs _ l.put_c l.few_c;
         comes = λ p same.
             l.comes p same
             ∙ listing_stops k n text (list_added p (records_in es₁) l.clauses) (records_in es₁) (λ o. absurd (omega (arith, s.inside))) l.no_gap (λ t. absurd (omega (arith, s.is, t.is)))

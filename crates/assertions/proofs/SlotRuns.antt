@@ -8,10 +8,11 @@ use mathlib.Core.List.{List, [], ◌∷◌, ◌++◌, append-nil}
 use mathlib.Core.Option.{some, none}
 use native.Mathlib.Decide.{dec_lt}
 use native.Mathlib.Omega.{arith}
-use Prim.Native.Nat.{ℕ, ◌+◌, ◌-◌, ◌*◌, ◌≤◌, ◌<◌}
+use Prim.Native.Nat.{ℕ, zero, suc, ◌+◌, ◌-◌, ◌*◌, ◌^◌, ◌≤◌, ◌<◌}
 use lib.Dec.{eqb}
-use lib.ListN.{length, drop, drop_of_length-le}
+use lib.ListN.{length, take, drop, drop_of_length-le}
 use lib.Seq.{drop-cons}
+use Rattle.std.proofs.lemmas.List.{get_or-take, length-take}
 use Rattle.scans.proofs.Bools.{says, both_ways}
 use Rattle.stored.specs.Bytes.{byte_at}
 use Rattle.std.specs.Prelude.{Result, MatchResult, Ok, Err}
@@ -21,11 +22,11 @@ use Rattle.grammar.specs.Items.{Keyword, Mark, number, word, letters}
 use Rattle.grammar.specs.Guards.{Guard}
 use Rattle.grammar.specs.Points.{Slot, saying, below, telling, Point, word_number, ended, step, finished}
 use Rattle.grammar.specs.Bytewise.{Outcome, staying, going_on, run, ready, digits, is_digit, fed, stops}
-use Rattle.phrases.specs.Places.{Stands, Skips, NoGap, Broken, Spelt}
+use Rattle.phrases.specs.Places.{Passes, Stands, Skips, NoGap, Broken, Spelt}
 use Rattle.phrases.specs.GuardsRead.{in_phase}
 use Rattle.assertions.specs.ClausesRead.{awaiting, Fills, Fails, CountedAt, LabelledAt}
 use Rattle.grammar.proofs.Slots.{same_word}
-use Rattle.phrases.proofs.Runs.{Digit}
+use Rattle.phrases.proofs.Runs.{Digit, digit_in}
 use Rattle.grammar.proofs.Fed.{fed_digit, fed_zero, fed_more}
 use Rattle.grammar.proofs.SpelledRuns.{NoDigit, number_passed}
 use Rattle.phrases.proofs.Feeding.{run_byte, run_some}
@@ -42,6 +43,18 @@ digit_not text i f = go (dec_lt i (length text))
     go : Dec (i < length text) → NoDigit (drop i text)
     go (yes h) = subst NoDigit (sym (drop-cons text i 0 h)) (f h)
     go (no h) = subst NoDigit (sym (drop_of_length-le text {i = i} (omega arith))) tt
+
+-- digits in the front of a text, and the end of them
+module _ (text : List ℕ) (m : ℕ) {i q : ℕ} (d : Passes is_digit (take m text) i q) where
+  pub front_digit : (j : ℕ) → i ≤ j → j < q → Digit text j
+  front_digit j l h =
+      let x = digit_in d j l h in
+      let inside : j < m = omega (arith, x.inside, length-take m text) in
+      let same = get_or-take m text j 0 inside in
+      record { inside = omega (arith, x.inside, length-take m text); low = rw same at x.low; high = rw same at x.high }
+
+  front_over : q < m → NoDigitAt text q
+  front_over h l = rw (get_or-take m text q 0 h) at (d.ends (omega (arith, length-take m text)))
 
 module _ (k n : ℕ) (text : List ℕ) (p : Point) (used : ℕ) (g : Guard) (limit : ℕ) (s : Slot) (ss : List Slot) (ns : List ℕ) where
   abbrev P : Point
@@ -81,13 +94,18 @@ module _ (k n : ℕ) (text : List ℕ) (p : Point) (used : ℕ) (g : Guard) (lim
       nothing_goes k n text P i (λ _. refl) clean (λ m _. refl)
       (λ d h st. let e : is_digit (byte_at text i) ≡ true = simp says (omega (arith, st.is), omega (arith, st.is)) in both_ways e (f st.inside)) (λ v _. refl) (λ w _. refl)
 
--- digits so far
+-- digits so far, with no zero in front: each but the first makes the number ten times larger
 pub record Counting (text : List ℕ) (limit i q v : ℕ) : Type 0 where
   pub forward : i ≤ q
   pub inside : q ≤ length text
   pub none_yet : q ≡ i → v ≡ 0
   pub small : i < q → v < limit
+  pub large : (m : ℕ) → i + suc m < q → 10 ^ suc m ≤ v
   pub comes : i < q → (k n : ℕ) (p : Point) (used : ℕ) (g : Guard) (s : Slot) (ss : List Slot) (ns : List ℕ) → awaiting k n text i (ready false) p used g (below limit ∷ s ∷ ss) ns ≡ awaiting k n text q (digits v) p used g (below limit ∷ s ∷ ss) ns
+
+pub counting_none : (text : List ℕ) (limit i : ℕ) → i ≤ length text → Counting text limit i i 0
+counting_none text limit i h =
+    record { forward = omega arith; inside = h; none_yet = λ _. refl; small = λ l. absurd (omega arith); large = λ m l. absurd (omega arith); comes = λ l. absurd (omega arith) }
 
 module _ {text : List ℕ} {limit i q v : ℕ} (c : Counting text limit i q v) where
   -- one digit more, of value x
@@ -102,6 +120,14 @@ module _ {text : List ℕ} {limit i q v : ℕ} (c : Counting text limit i q v) w
             let first : 10 * v + x ≡ byte_at text q - 48 = omega (arith, c.none_yet here, same) in
             rw (first, sym here) (first_digit k n text p used g limit s ss ns q d)
 
+    larger : (m : ℕ) → i + suc m < q + 1 → 10 ^ suc m ≤ 10 * v + x
+    larger m h = go m h some
+      where
+        go : (m : ℕ) → i + suc m < q + 1 → (i < q) × ¬ (v ≡ 0) ⊎ (q ≤ i) → 10 ^ suc m ≤ 10 * v + x
+        go m h (inr l) = absurd (omega arith)
+        go zero h (inl l) = omega (arith, l.1)
+        go (suc m) h (inl l) = omega (arith, c.large m (omega arith))
+
     pub counting_more : 10 * v + x < limit → Counting text limit i (q + 1) (10 * v + x)
     counting_more h =
         record {
@@ -109,6 +135,7 @@ module _ {text : List ℕ} {limit i q v : ℕ} (c : Counting text limit i q v) w
           inside = omega (arith, d.inside);
           none_yet = λ e. absurd (omega (arith, c.forward));
           small = λ _. h;
+          large = larger;
           comes = λ l k n p used g s ss ns. counted k n p used g s ss ns ∙ made_goes k n text p used g limit s ss ns q (10 * v + x) h;
         }
 
@@ -118,13 +145,24 @@ module _ {text : List ℕ} {limit i q v : ℕ} (c : Counting text limit i q v) w
   pub counting_zero : Digit text q → i < q → v ≡ 0 → Fails text false (below limit ∷ []) i q
   counting_zero d l z = record { comes = λ k n p used g s ss ns. c.comes l k n p used g s ss ns ∙ rw z (zero_digit k n text p used g limit s ss ns q d) }
 
-  pub counting_end : NoDigitAt text q → ¬ (q ≡ i) → (v < limit) × Fills text false (below limit ∷ []) i q v
-  counting_end f apart =
+  -- five digits at the most make a number below the limit
+  few_digits : limit ≤ 65536 → q < i + 6
+  few_digits few = go (dec_lt (i + 5) q)
+    where
+      go : Dec (i + 5 < q) → q < i + 6
+      go (yes l) = let most : 100000 ≤ v = c.large 4 l in absurd (omega (arith, c.small (omega arith)))
+      go (no l) = omega arith
+
+  pub counting_end : limit ≤ 65536 → Passes is_digit (take (i + 6) text) i q → ¬ (q ≡ i) → (v < limit) × Fills text false (below limit ∷ []) i q v
+  counting_end few d apart =
       let l : i < q = omega (arith, c.forward) in
+      let f = front_over text (i + 6) d (few_digits few) in
       (c.small l, record { past = l; inside = c.inside; comes = λ k n p used g s ss ns. c.comes l k n p used g s ss ns ∙ number_done k n text p used g limit s ss ns q v (c.small l) f })
 
-pub counting_empty : {text : List ℕ} {limit i : ℕ} → NoGap text i → NoDigitAt text i → Fails text false (below limit ∷ []) i i
-counting_empty {text} {limit} {i} clean f = record { comes = λ k n p used g s ss ns. no_number k n text p used g limit s ss ns i clean f }
+pub counting_empty : {text : List ℕ} {limit i : ℕ} → NoGap text i → Passes is_digit (take (i + 6) text) i i → Fails text false (below limit ∷ []) i i
+counting_empty {text} {limit} {i} clean d =
+    let f : NoDigitAt text i = front_over text (i + 6) d (omega arith) in
+    record { comes = λ k n p used g s ss ns. no_number k n text p used g limit s ss ns i clean f }
 
 -- a word, and a number after it, with gaps before each
 module _ (k n : ℕ) (text : List ℕ) (p : Point) (used : ℕ) (g : Guard) (s : Slot) (ss : List Slot) (ns : List ℕ) where

@@ -26,6 +26,7 @@ use Rattle.assertions.specs.TextsRead.{listing_at, RestTo, RestNone, RestAt, Tex
 use Rattle.phrases.proofs.Feeding.{run_past, run_end, run_gaps, run_some}
 use Rattle.phrases.proofs.Stopping.{touching_stops, nothing_goes}
 use Rattle.phrases.proofs.WordRuns.{word_goes, word_stops}
+use Rattle.assertions.proofs.Keeping.{kept_same, kept_put}
 use Rattle.assertions.proofs.ListRuns.{listing_stops}
 
 -- after `expect`
@@ -98,42 +99,63 @@ module _ (k n : ℕ) (text : List ℕ) where
   given_listed sk sp sk' apart = given_goes sk sp ∙ run_some k n text true (listing_at false [] 0) sk' (omega (arith, sk'.forward))
 
 -- `expect` and its list
-module _ {k n i : ℕ} {text es cs : List ℕ} where
-  pub expect_none : {j : ℕ} → NoGap text i → ¬ Stands text i 119 → Broken text i (letters EXPECT) j → RestNone k n i text es cs j
-  expect_none clean f b = record { comes = λ gs _. expect_stops k n text gs (records_in es) clean f b }
+module _ {k n i : ℕ} {text es cs : List ℕ} (few : (records_in es ≤ 504) × (records_in cs ≤ 504)) where
+  pub expect_none : {j : ℕ} → NoGap text i → ¬ Stands text i 119 → Broken text i (letters EXPECT) j → RestNone k n i text es es cs cs j
+  expect_none clean f b = record { kept_e = kept_same es few.0; kept_c = kept_same cs few.1; comes = λ gs _. expect_stops k n text gs (records_in es) clean f b }
 
   module _ {q r : ℕ} {t : Bool} (sp : Spelt text i (letters EXPECT) q) (sk : Skips text q r) (t-is : t ≡ eqb r q && ltb q (length text)) where
-    pub rest_touched : t ≡ true → RestNone k n i text es cs q
-    rest_touched h = record { comes = λ gs _. expect_read k n text gs (records_in es) sp ∙ expect_touched k n text gs (records_in es) sk (sym t-is ∙ h) }
+    pub rest_touched : t ≡ true → RestNone k n i text es es cs cs q
+    rest_touched h = record { kept_e = kept_same es few.0; kept_c = kept_same cs few.1; comes = λ gs _. expect_read k n text gs (records_in es) sp ∙ expect_touched k n text gs (records_in es) sk (sym t-is ∙ h) }
 
     module _ (h : t ≡ false) where
-      pub rest_fails : {j : ℕ} → ListNone k n r text es cs j → RestNone k n i text es cs j
+      pub rest_fails : {es' cs' : List ℕ} {j : ℕ} → ListNone k n r text es es' cs cs' j → RestNone k n i text es es' cs cs' j
       rest_fails x =
-          record { comes = λ gs same. expect_read k n text gs (records_in es) sp ∙ expect_goes k n text gs (records_in es) sk (sym t-is ∙ h) ∙ x.comes (listing_at true gs (records_in es)) (omega arith) }
+          record {
+            kept_e = x.kept_e;
+            kept_c = x.kept_c;
+            comes = λ gs same. expect_read k n text gs (records_in es) sp ∙ expect_goes k n text gs (records_in es) sk (sym t-is ∙ h) ∙ x.comes (listing_at true gs (records_in es)) (omega arith);
+          }
 
       module _ {es' cs' : List ℕ} {u : ℕ} (l : ListOver k n 1 r text es es' cs cs' u) where
         listed : (gs : List Clause) → length gs ≡ records_in cs → reading k n text i (ready false) (listing_at false gs (records_in es)) ≡ reading k n text u (ready false) (list_added (listing_at true gs (records_in es)) (records_in es') l.to.clauses)
         listed gs same = expect_read k n text gs (records_in es) sp ∙ expect_goes k n text gs (records_in es) sk (sym t-is ∙ h) ∙ l.to.comes (listing_at true gs (records_in es)) (omega arith)
 
-        pub rest_open : u < length text → RestNone k n i text es cs u
-        rest_open inside = record { comes = λ gs same. listed gs same ∙ text_stops k n text gs (records_in es) (records_in es') l.to.clauses inside l.to.no_gap l.no_when }
+        pub rest_open : u < length text → RestNone k n i text es es' cs cs' u
+        rest_open inside =
+            record {
+              kept_e = kept_put es _ l.to.put_e l.to.few_e;
+              kept_c = kept_put cs _ l.to.put_c l.to.few_c;
+              comes = λ gs same. listed gs same ∙ text_stops k n text gs (records_in es) (records_in es') l.to.clauses inside l.to.no_gap l.no_when;
+            }
 
         pub rest_ends : length text ≤ u → RestTo k n i text es es' cs cs'
         rest_ends over =
-            record { expect = l.to.clauses; put_e = l.to.put_e; put_c = l.to.put_c; comes = λ gs same. listed gs same ∙ text_ends k n text gs (records_in es) (records_in es') l.to.clauses over }
+            record {
+              expect = l.to.clauses;
+              few_e = l.to.few_e;
+              few_c = l.to.few_c;
+              put_e = l.to.put_e;
+              put_c = l.to.put_c;
+              comes = λ gs same. listed gs same ∙ text_ends k n text gs (records_in es) (records_in es') l.to.clauses over;
+            }
 
 -- `given` and its list, and the rest, where nothing has been read
-module _ {k n i : ℕ} {text : List ℕ} (sk : Skips text 0 i) where
-  pub text_none : {j : ℕ} → Broken text i (letters GIVEN) j → TextNone k n text j
-  text_none b = record { comes = given_stops k n text sk b }
+module _ {k n i : ℕ} {text es cs : List ℕ} (es-empty : es ≡ []) (cs-empty : cs ≡ []) (sk : Skips text 0 i) where
+  none_read : {j : ℕ} → reading k n text 0 (ready false) start ≡ stops j → TextNone k n text es cs j
+  none_read e = record { few_e = omega (arith, ap length es-empty); few_c = omega (arith, ap length cs-empty); comes = e }
+
+  pub text_none : {j : ℕ} → Broken text i (letters GIVEN) j → TextNone k n text es cs j
+  text_none b = none_read (given_stops k n text sk b)
 
   module _ {q r : ℕ} (sp : Spelt text i (letters GIVEN) q) (sk' : Skips text q r) where
-    pub given_close : r ≡ q → TextNone k n text q
-    given_close same = record { comes = given_goes k n text sk sp ∙ given_touched k n text sk' same }
+    pub given_close : r ≡ q → TextNone k n text es cs q
+    given_close same = none_read (given_goes k n text sk sp ∙ given_touched k n text sk' same)
 
-    module _ (apart : ¬ (r ≡ q)) {es cs : List ℕ} (es-empty : es ≡ []) (cs-empty : cs ≡ []) where
-      pub given_fails : {j : ℕ} → ListNone k n r text es cs j → TextNone k n text j
-      given_fails x = let y = rw (es-empty, cs-empty) at x in record { comes = given_listed k n text sk sp sk' apart ∙ y.comes (listing_at false [] 0) refl }
+    module _ (apart : ¬ (r ≡ q)) where
+      pub given_fails : {es' cs' : List ℕ} {j : ℕ} → ListNone k n r text es es' cs cs' j → TextNone k n text es' cs' j
+      given_fails x =
+          let y = rw (es-empty, cs-empty) at x in
+          record { few_e = x.kept_e.few; few_c = x.kept_c.few; comes = given_listed k n text sk sp sk' apart ∙ y.comes (listing_at false [] 0) refl }
 
       module _ {es₁ cs₁ : List ℕ} {u : ℕ} (l : ListOver k n 0 r text es es₁ cs cs₁ u) where
         -- all that the list says, of what was empty
@@ -153,10 +175,12 @@ module _ {k n i : ℕ} {text : List ℕ} (sk : Skips text 0 i) where
             let e_is : records_in es₁ ≡ sizes before.clauses = omega (arith, before.count_e) in
             record {
               t = record { given = before.clauses; expect = y.expect };
+              few_e = y.few_e;
+              few_c = y.few_c;
               es_are = (rw e_is at y.put_e) ∙ ap (λ l. l ++ list_expressions (sizes before.clauses) y.expect) before.put_e;
               cs_are = (rw e_is at y.put_c) ∙ ap (λ l. l ++ list_clauses 1 (sizes before.clauses) y.expect) before.put_c;
               comes = on_rest ∙ y.comes before.clauses given_count;
             }
 
         pub text_at : {es₂ cs₂ : List ℕ} {w : Result (Unit {0}) Stopped} → RestAt k n u text es₁ es₂ cs₁ cs₂ w → TextAt k n text es₂ cs₂ w
-        text_at {w = w} x = record { says = MatchResult-weaker w x.says (λ _. text_to) (λ _ y. record { comes = on_rest ∙ y.comes from_empty.to.clauses given_count }) }
+        text_at {w = w} x = record { says = MatchResult-weaker w x.says (λ _. text_to) (λ _ y. record { few_e = y.kept_e.few; few_c = y.kept_c.few; comes = on_rest ∙ y.comes from_empty.to.clauses given_count }) }

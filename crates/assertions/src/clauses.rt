@@ -1,18 +1,31 @@
 // The rest of a clause after its guard: a node, a value and a time.
-ghost use Rattle.std.specs.Prelude.{◌≡◌, true, false, [], ◌∷◌, ◌≤◌, ◌<◌, length};
+ghost use Rattle.std.specs.Prelude.{◌≡◌, true, false, [], ◌∷◌, ◌+◌, ◌≤◌, ◌<◌, length, take};
 ghost use Rattle.grammar.specs.Points.{below, clause_slots};
-ghost use Rattle.phrases.specs.Places.{NoGap};
+ghost use Rattle.grammar.specs.Bytewise.{is_digit};
+ghost use Rattle.phrases.specs.Places.{Passes, NoGap};
 ghost use Rattle.assertions.specs.ClausesRead.{CountedAt, LabelledAt, ToldAt};
 
 use crate::parts::{Counted, Limits, Told};
 use phrases::items::{Stopped, after_digits, is_at, skip, spell};
+
+// No number below 65536 has six digits: it is refused at the sixth, or before.
+const FRONT: usize = 6;
+
+// The place after the digits that stand here, six at the most: what comes after six is not looked at.
+fn after_first_digits(text: &[u8], at: usize) -> usize
+    requires { at ≤ length text.now }
+    ensures { Passes is_digit (take (at + 6) text.now) at result }
+{
+    let front = &text[..text.len().min(at + FRONT)];
+    after_digits(front, at)
+}
 
 // A number below the limit, without zeros in front.
 fn number(text: &[u8], at: usize, limit: usize) -> Result<Counted, Stopped>
     requires { (at ≤ length text.now) × NoGap text.now at × (limit ≤ 65536) }
     ensures { CountedAt text.now false (below limit ∷ []) limit at result }
 {
-    let end = after_digits(text, at);
+    let end = after_first_digits(text, at);
     if end == at {
         return Err(Stopped { at });
     }

@@ -70,6 +70,7 @@ pub fn list(
     requires { at ≤ length text.now }
     ensures { ListAt limits.k limits.n (side_of side) at text.now records.old.expressions records.new.expressions records.old.clauses records.new.clauses result }
 {
+    records.are_few();
     let mut q = skip(text, at);
     // A while: it goes on as long as a `w` stands, and counts no index.
     while is_at(text, q, b'w') {

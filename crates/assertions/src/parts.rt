@@ -27,6 +27,14 @@ impl TextRecords {
     {
         self.expressions.has_room(1) && self.clauses.has_room(1)
     }
+
+    // No list has more than a job holds. It does nothing: it is called for what it ensures.
+    pub fn are_few(&self)
+        ensures { (records_in self.now.expressions ≤ 504) × (records_in self.now.clauses ≤ 504) }
+    {
+        self.expressions.count();
+        self.clauses.count();
+    }
 }
 
 // A number and the place after it.
@@ -44,4 +52,5 @@ pub struct Told {
     pub time: usize,
     pub at: usize,
     pub ghost binary: { value < 2 },
+    pub ghost in_time: { time < 256 },
 }

@@ -25,6 +25,7 @@ fn expected(
     requires { (at ≤ length text.now) × NoGap text.now at × (¬ Stands text.now at 119) }
     ensures { RestAt limits.k limits.n at text.now records.old.expressions records.new.expressions records.old.clauses records.new.clauses result }
 {
+    records.are_few();
     let end = spell(text, at, b"expect")?;
     let from = skip(text, end);
     if touches(end, from, text.len()) {

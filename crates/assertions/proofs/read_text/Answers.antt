@@ -21,4 +21,4 @@ returns-then-not-has_room c =
 pub returns : goal.returns
 returns c =
     written c.args.k c.args.n c.in_limits.ensures c.if-not-in_limits.false c.in_ok-whole_text.ensures.says (rw (c.bytes-es.ensures, c.bytes-cs.ensures) at c.has_room.ensures) c.if-not-has_room.false
-    (rw c.bytes-es.ensures at c.put_front.ensures.put) (rw c.bytes-cs.ensures at c.put_front-2.ensures.put) c.count.ensures c.count-2.ensures
+    (rw c.bytes-es.ensures at c.put_front.ensures.put) (rw c.bytes-cs.ensures at c.put_front-2.ensures.put) c.count.ensures.0 c.count-2.ensures.0

@@ -43,4 +43,4 @@ returns c =
 
 pub invariant_of-result : goal.invariant_of-result
 unfolding letters
-invariant_of-result c = record { binary = (c.in_ok-value.ensures.counted IS refl).says.0 }
+invariant_of-result c = record { binary = (c.in_ok-value.ensures.counted IS refl).says.0; in_time = (c.in_ok-time.ensures.counted AT refl).says.0 }

@@ -6,7 +6,7 @@ use Rattle.assertions.proofs.ListRuns.{list_none, list_more, list_stops, list_fu
 use Rattle.assertions.proofs.lists.list.Goals as goal
 
 pub loop-limits-init : goal.loop-limits-init
-loop-limits-init c = list_none _ c.skip-q.ensures
+loop-limits-init c = list_none _ c.are_few.ensures c.skip-q.ensures
 
 pub returns-then-not-has_room : goal.returns-then-not-has_room
 returns-then-not-has_room c = record { says = list_full c.loop-limits.invariant (stands c.is_at.ensures c.loop-limits-test.true) (test_false c.has_room.ensures c.if-not-has_room.true) }
