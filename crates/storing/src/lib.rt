@@ -18,7 +18,8 @@ pub struct Records<'a> {
 }
 
 impl Records<'_> {
-    ghost use Rattle.std.specs.Prelude.{◌≡◌, ◌+◌, ◌*◌, ◌<◌, ◌≤◌, ◌++◌, length, drop};
+    ghost use Rattle.std.specs.Prelude.{◌≡◌, ◌+◌, ◌*◌, ◌/◌, ◌%◌, ◌<◌, ◌≤◌, ◌++◌, length, drop};
+    ghost use Rattle.scans.specs.Lists.{list_of};
     ghost use Rattle.stored.specs.Bytes.{word_of};
     ghost use Rattle.stored.specs.Layout.{sizes_of, blocks_of, header_record, plain_byte, check_word, block_byte, stored};
     ghost use Rattle.storing.specs.Steps.{records_in};
@@ -108,13 +109,22 @@ impl Records<'_> {
         512 * self.layout.block_count()
     }
 
-    #[tactic(auto, using(scans::proofs::Lists::filling), unfolding(stored::specs::Layout::stored))]
+    // Writes the first `size` bytes of the stored job, and of blocks after it where it has fewer.
+    #[tactic(auto, using(scans::proofs::Lists::filling))]
+    pub fn write_front(&self, size: usize, out: &mut [u8])
+        requires { (size ≤ length out.old) × (size < 16777216) }
+        ensures { out.new ≡ list_of (λ j. block_byte (records_in self.now) (j / 512) (j % 512)) size ++ drop size out.old }
+    {
+        for j in 0..size {
+            out[j] = self.block_byte((j / 512) as u16, j % 512);
+        }
+    }
+
+    #[tactic(auto, unfolding(stored::specs::Layout::stored))]
     pub fn write(&self, out: &mut [u8])
         requires { 512 * blocks_of (sizes_of (records_in self.now)) ≤ length out.old }
         ensures { out.new ≡ stored (records_in self.now) ++ drop (512 * blocks_of (sizes_of (records_in self.now))) out.old }
     {
-        for j in 0..self.size() {
-            out[j] = self.block_byte((j / 512) as u16, j % 512);
-        }
+        self.write_front(self.size(), out);
     }
 }
