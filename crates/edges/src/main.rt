@@ -5,6 +5,7 @@
 mod bytes;
 mod job;
 mod lines;
+mod output;
 mod packing;
 mod reading;
 mod shape;
@@ -15,10 +16,11 @@ ghost use Rattle.std.specs.Prelude.{◌≤◌, length};
 
 use crate::job::Job;
 use crate::lines::{Test, last_number, numbers};
+use crate::output::Output;
 use crate::show::Answer;
 use std::io;
 use std::io::{Read, Write};
-use std::rt::{Stdin, Stdout};
+use std::rt::Stdin;
 
 fn answer(test: Test, line: &[u8], job: &mut Job) -> Answer {
     match test {
@@ -43,19 +45,20 @@ fn answer(test: Test, line: &[u8], job: &mut Job) -> Answer {
 }
 
 // Prints a line and its answer; a line with # as it stands, and one that asks nothing with no end.
-fn tell(to: &mut Stdout, line: &[u8], job: &mut Job) -> io::Result<()> {
+fn tell(to: &mut Output<'_>, line: &[u8], job: &mut Job) -> io::Result<()> {
     to.write_all(line)?;
     if line.starts_with(b"#") {
         return writeln!(to);
     }
+    write!(to, ":")?;
     match Test::of(line) {
-        Some(test) => writeln!(to, ":{}", answer(test, line, job)),
-        None => write!(to, ":"),
+        Some(test) => writeln!(to, "{}", answer(test, line, job)),
+        None => Ok(()),
     }
 }
 
 // The job is built anew for each test but `wrong-from`, which goes on with that of the line before.
-fn run(to: &mut Stdout, tests: &[u8], job: &mut Job) {
+fn run(to: &mut Output<'_>, tests: &[u8], job: &mut Job) {
     // the last line ends at the last byte, whatever that is
     let Some((_, lines)) = tests.split_last() else {
         return;
@@ -70,7 +73,9 @@ fn read_full(input: &mut Stdin, buffer: &mut [u8]) -> usize
     ensures { result ≤ length buffer.old }
 {
     let mut done: usize = 0;
-    while let Ok(more @ 1..) = input.read(&mut buffer[done..]) {
+    while done < buffer.len()
+        && let Ok(more @ 1..) = input.read(&mut buffer[done..])
+    {
         done += more;
     }
     done
@@ -79,5 +84,9 @@ fn read_full(input: &mut Stdin, buffer: &mut [u8]) -> usize
 fn main(rt: HostRuntime) {
     let mut tests = [0u8; 16384];
     let size = read_full(&mut rt.stdin(), &mut tests);
-    run(&mut rt.stdout(), &tests[..size], &mut Job::new());
+    run(
+        &mut Output(&mut rt.stdout()),
+        &tests[..size],
+        &mut Job::new(),
+    );
 }

@@ -2,6 +2,19 @@
 use std::fmt;
 use stored::{Refusal, Size};
 
+// Each number after a space, in pieces of their own: where standard output refuses a piece, no more than that is lost.
+#[derive(Clone, Copy)]
+struct Numbers<const N: usize>([usize; N]);
+
+impl<const N: usize> fmt::Display for Numbers<N> {
+    fn fmt<W: fmt::Write>(&self, f: &mut fmt::Formatter<W>) -> fmt::Result {
+        for number in self.0 {
+            write!(f, " {number}")?;
+        }
+        Ok(())
+    }
+}
+
 #[derive(Clone, Copy)]
 struct Refused(Refusal);
 
@@ -12,7 +25,7 @@ impl fmt::Display for Refused {
             block,
             record,
         } = self.0;
-        write!(f, " refused {number} {block} {record}")
+        write!(f, " refused{}", Numbers([number, block, record]))
     }
 }
 
@@ -23,7 +36,7 @@ pub struct Reading(pub Result<Size, Refusal>);
 impl fmt::Display for Reading {
     fn fmt<W: fmt::Write>(&self, f: &mut fmt::Formatter<W>) -> fmt::Result {
         match self.0 {
-            Ok(Size { k, n, e, c }) => write!(f, " sizes {k} {n} {e} {c}"),
+            Ok(Size { k, n, e, c }) => write!(f, " sizes{}", Numbers([k, n, e, c])),
             Err(refusal) => write!(f, "{}", Refused(refusal)),
         }
     }
@@ -60,7 +73,7 @@ impl fmt::Display for Packing {
     fn fmt<W: fmt::Write>(&self, f: &mut fmt::Formatter<W>) -> fmt::Result {
         let kept = self.kept;
         match self.answer {
-            Ok(size) => write!(f, " written {size}{kept}"),
+            Ok(size) => write!(f, " written{}{kept}", Numbers([size])),
             Err(refusal) => write!(f, "{}{kept}", Refused(refusal)),
         }
     }
@@ -120,7 +133,10 @@ impl fmt::Display for Answer {
             Answer::Packed(packing) => write!(f, "{packing}"),
             Answer::RoundTrip(trip) => write!(f, "{trip}"),
             // the flag job is packed in a line of its own
-            Answer::Flag(reading, trip) => write!(f, "{reading}\nrepack 1 2 2 4 2048:{trip}"),
+            Answer::Flag(reading, trip) => {
+                writeln!(f, "{reading}")?;
+                write!(f, "repack 1 2 2 4 2048:{trip}")
+            }
             Answer::Unpacked(unpacking) => write!(f, "{unpacking}"),
         }
     }

@@ -3,8 +3,8 @@
 use Rattle.std.proofs.Common.{◌-◌, ◌≤◌, length}
 use Rattle.edges.proofs.read_full.Given as goal
 
-abbrev pub invariant-loop-more : goal.invariant-loop-more
-invariant-loop-more l = l.done ≤ length l.buffer
+abbrev pub invariant-loop-done : goal.invariant-loop-done
+invariant-loop-done l = l.done ≤ length l.buffer
 
-abbrev pub decreases-loop-more : goal.decreases-loop-more
-decreases-loop-more l = length l.initial.buffer - l.done
+abbrev pub decreases-loop-done : goal.decreases-loop-done
+decreases-loop-done l = length l.initial.buffer - l.done
