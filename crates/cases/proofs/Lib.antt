@@ -3,3 +3,4 @@ pub mod WalkLaws
 pub mod SearchLaws
 pub mod MissLaws
 pub mod AnswerLaws
+pub mod GateLaws

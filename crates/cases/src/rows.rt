@@ -39,15 +39,13 @@ fn forces_from(node: Node, row: &[Cell]) -> Cell
     })
 }
 
-// What the gates force from a row.
-fn forced_row(plan: &Plan, row: &Row) -> Row
-    ensures { (m : ℕ) → m < plan.now.size.n → cell_in result m ≡ forces_from (node_of plan.now.nodes m) (cell_in row.now) }
+// Writes what the gates force from a row.
+fn forced_row(plan: &Plan, row: &Row, next: &mut Row)
+    ensures { (m : ℕ) → m < plan.now.size.n → cell_in next.new m ≡ forces_from (node_of plan.now.nodes m) (cell_in row.now) }
 {
-    let mut next = [Some(Value::X); 1008];
     for (m, node) in plan.nodes[..plan.size.n].iter().enumerate() {
         next[m] = forces_from(*node, row);
     }
-    next
 }
 
 // A case, and its rows one after the other.
@@ -57,7 +55,7 @@ pub struct Run<'a> {
     case: usize,
     // The guards' words of the group of 64 cases that this one is in.
     guards: [u64; 504],
-    // The time of the next row. At hand is the row before it; at time 0 there is none yet, and `forced` asks the time: an Option
+    // The time of the next row. At hand is the row before it; at time 0 there is none yet, and `force` asks the time: an Option
     // would make each of the other methods say what it answers without a row.
     next: usize,
     row: Row,
@@ -95,20 +93,22 @@ impl<'a> Run<'a> {
         ensures case { self.new.case ≡ self.old.case }
         ensures next { self.new.next ≡ self.old.next + 1 }
     {
-        let mut row = self.forced();
+        let mut row = self.row;
+        self.force(&mut row);
         self.stimulate(&mut row);
         self.row = row;
         self.next += 1;
     }
 
-    // What the nodes are forced to at the next time. Each starts at X.
-    fn forced(&self) -> Row
-        ensures { Shows self.now.plan.now.size.n result (forced (job_in self.now.plan.now) self.now.case self.now.next) }
+    // Writes what the nodes are forced to at the next time. Each starts at X.
+    fn force(&self, row: &mut Row)
+        ensures { Shows self.now.plan.now.size.n row.new (forced (job_in self.now.plan.now) self.now.case self.now.next) }
     {
         if self.next == 0 {
-            return [Some(Value::X); 1008];
+            row.fill(Some(Value::X));
+            return;
         }
-        forced_row(self.plan, &self.row)
+        forced_row(self.plan, &self.row, row);
     }
 
     // Joins a row with the stimulus of the next time.

@@ -1,6 +1,6 @@
 -- Row after row.
 -- Assumes nothing.
-use Rattle.std.proofs.Common.{◌≡◌, ◌+◌, suc, arith}
+use Rattle.std.proofs.Common.{◌≡◌, ◌+◌, Some, suc, arith, rules, tests}
 use Rattle.cases.proofs.AnswerLaws.{last_small, Searched, Come, come_more, searched_none, searched_judged, searched_stays, searched_found, empty_is, answer_is}
 use Rattle.cases.proofs.case_answer.Goals as goal
 use Rattle.cases.proofs.case_answer.Goals.{Joined-answer, in-Passes, in_default-answer}
@@ -18,8 +18,9 @@ returns-in-Some c =
     let p = c.args.plan.now in
     let old = c.loop-time.invariant in
     let e = c.step.ensures in
+    let is : c.collided.result ≡ Some c.in-Some.node = search (rules, tests) in
     let found = searched_found p c.args.case c.loop-time.time (come_more {r' = c.step.new.self} old.come e.plan e.case e.next) old.searched c.collided.ensures in
-    empty_is p c.args.case p.last_is (found p.last c.loop-time-test.true c.in-Some.is)
+    empty_is p c.args.case p.last_is (found p.last c.loop-time-test.true is)
 
 pub judged-answer-requires : goal.judged-answer-requires
 judged-answer-requires c = omega (arith, last_small c.args.plan.now)

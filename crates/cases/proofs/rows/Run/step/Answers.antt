@@ -6,4 +6,4 @@ use Rattle.cases.proofs.rows.Run.step.Goals as goal
 pub invariant_of-self : goal.invariant_of-self
 invariant_of-self c =
     let s = c.args.self.now in
-    record { guarded = s.guarded; before = before_next s.plan.now s.case s.next c.forced-row.result c.stimulate.new.row c.forced-row.ensures c.stimulate.ensures }
+    record { guarded = s.guarded; before = before_next s.plan.now s.case s.next c.force.new.row c.stimulate.new.row c.force.ensures c.stimulate.ensures }
