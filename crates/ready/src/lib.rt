@@ -8,7 +8,7 @@ use decoded::{Plan, decode_list};
 use jobs::sizes;
 use stored::Refusal;
 
-// The plan of a job that reading accepts. Its lists go to the plan at once, not by names of their own: each would stand on the stack twice.
+// The plan of a job that reading accepts.
 pub fn make_ready(job: &[u8]) -> Result<Plan, Refusal>
     ensures { Readied job.now result }
 {
@@ -16,10 +16,8 @@ pub fn make_ready(job: &[u8]) -> Result<Plan, Refusal>
     let layout = Layout { size };
     let e1 = layout.first_expressions();
     let c1 = layout.first_clauses();
-    Ok(Plan::new(
-        size,
-        decode_list(job, 1, size.n),
-        decode_list(job, e1, size.e),
-        decode_list(job, c1, size.c),
-    ))
+    let nodes = decode_list(job, 1, size.n);
+    let expressions = decode_list(job, e1, size.e);
+    let clauses = decode_list(job, c1, size.c);
+    Ok(Plan::new(size, nodes, expressions, clauses))
 }

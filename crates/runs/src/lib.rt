@@ -1,13 +1,12 @@
 // Running stored jobs: the row of a case, the answer for one case, the answer for the whole job.
 #![tactic(auto)]
 
-ghost use Rattle.std.specs.Prelude.{◌≡◌, ◌+◌, ◌^◌, ◌≤◌, ltb, List, ℕ};
+ghost use Rattle.std.specs.Prelude.{◌≡◌, ◌+◌, ◌^◌, ◌≤◌, ltb};
 ghost use Rattle.meaning.specs.Answers.{decided_by, job_answer};
 ghost use Rattle.scans.specs.Refusals.{whole};
 ghost use Rattle.stored.specs.Checked.{checked};
 ghost use Rattle.verdicts.specs.Running.{check_answer, one_case_answer, stated_checked, stated_case_checked, GivesRow};
 ghost use Rattle.decoded.specs.Meant.{job_in};
-ghost use Rattle.ready.specs.Readied.{Readied};
 
 use cases::{case_answer, case_row};
 use decoded::Plan;
@@ -78,57 +77,20 @@ fn decide(plan: &Plan) -> JobAnswer
     }
 }
 
-// The whole job. Here and below a plan is looked at where it was made, since it is large: a name or `?` would copy it.
+// The whole job.
 pub fn check(job: &[u8]) -> Result<JobAnswer, Refusal>
     ensures { stated_checked result ≡ check_answer job.now }
 {
-    match &make_ready(job) {
-        Ok(plan) => Ok(decide(plan)),
-        Err(refusal) => Err(*refusal),
-    }
-}
-
-// One case of a job that was made ready.
-fn answered(ready: &Result<Plan, Refusal>, case: usize) -> Result<CaseAnswer, Refusal>
-    ensures { (job : List ℕ) → Readied job ready.now → stated_case_checked result ≡ one_case_answer job case }
-{
-    let plan = match ready {
-        Ok(plan) => plan,
-        Err(refusal) => return Err(*refusal),
-    };
-    known_case(plan, case)?;
-    Ok(case_answer(plan, case))
+    Ok(decide(&make_ready(job)?))
 }
 
 // One case of a job.
 pub fn one_case(job: &[u8], case: usize) -> Result<CaseAnswer, Refusal>
     ensures { stated_case_checked result ≡ one_case_answer job.now case }
 {
-    answered(&make_ready(job), case)
-}
-
-// The row of a job that was made ready.
-fn given(
-    ready: &Result<Plan, Refusal>,
-    case: usize,
-    time: usize,
-    out: &mut [u8],
-) -> Result<usize, Refusal>
-    ensures { (job : List ℕ) → Readied job ready.now → GivesRow job case time out.old out.new result }
-{
-    let plan = match ready {
-        Ok(plan) => plan,
-        Err(refusal) => return Err(*refusal),
-    };
-    let n = plan.size.n;
-    known_case(plan, case)?;
-    Reason::Time.unless(time <= 255)?;
-    Reason::Room.unless(n <= out.len())?;
-    let Some(row) = case_row(plan, case, time) else {
-        return Err(Refusal::whole(Reason::Empty));
-    };
-    out[..n].copy_from_slice(&row[..n]);
-    Ok(n)
+    let plan = make_ready(job)?;
+    known_case(&plan, case)?;
+    Ok(case_answer(&plan, case))
 }
 
 // The row of a case at a time, also past the job's last one: a byte for each node, 0, 1, or 2 for X. Numbers and room stand by
@@ -136,5 +98,14 @@ fn given(
 pub fn row(job: &[u8], case: usize, time: usize, out: &mut [u8]) -> Result<usize, Refusal>
     ensures { GivesRow job.now case time out.old out.new result }
 {
-    given(&make_ready(job), case, time, out)
+    let plan = make_ready(job)?;
+    let n = plan.size.n;
+    known_case(&plan, case)?;
+    Reason::Time.unless(time <= 255)?;
+    Reason::Room.unless(n <= out.len())?;
+    let Some(row) = case_row(&plan, case, time) else {
+        return Err(Refusal::whole(Reason::Empty));
+    };
+    out[..n].copy_from_slice(&row[..n]);
+    Ok(n)
 }

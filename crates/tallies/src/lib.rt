@@ -52,26 +52,19 @@ impl Found {
 }
 
 // All groups of a job. Places that stand for no case, where k is below 6, are masked.
-fn count_groups(gates: &Gates) -> Counted
-    ensures failing { let j = job_in gates.now.plan.now in FoundIn (failing j) (cases j) result.failing }
-    ensures empty { let j = job_in gates.now.plan.now in FoundIn (empty j) (cases j) result.empty }
-{
-    let used = used_places(gates.plan.size.k);
-    let cases = gates.plan.cases();
-    let mut failing = Found::default();
-    let mut empty = Found::default();
-    for g in 0..cases.div_ceil(64) {
-        let answered = answer_group(gates, g);
-        failing = failing.with(g, answered.failing & used);
-        empty = empty.with(g, answered.empty & used);
-    }
-    Counted { failing, empty }
-}
-
-// The gates are looked at where they were made, since they are large: a name would copy them.
 pub fn count_cases(plan: &Plan) -> Counted
     ensures failing { FoundIn (failing (job_in plan.now)) (cases (job_in plan.now)) result.failing }
     ensures empty { FoundIn (empty (job_in plan.now)) (cases (job_in plan.now)) result.empty }
 {
-    count_groups(&Gates::new(plan))
+    let gates = Gates::new(plan);
+    let used = used_places(plan.size.k);
+    let cases = plan.cases();
+    let mut failing = Found::default();
+    let mut empty = Found::default();
+    for g in 0..cases.div_ceil(64) {
+        let answered = answer_group(&gates, g);
+        failing = failing.with(g, answered.failing & used);
+        empty = empty.with(g, answered.empty & used);
+    }
+    Counted { failing, empty }
 }

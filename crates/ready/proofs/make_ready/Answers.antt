@@ -10,11 +10,11 @@ invariant_of-layout c = record { narrow = narrow c.args.job.now _ (accepted c.ar
 pub new-requires : goal.new-requires
 new-requires c =
     decoded_is c.args.job.now _ (accepted c.args.job.now c.sizes.ensures c.in_ok-size.was) _ _ _ _ _ c.first_expressions-e1.ensures.0 c.first_clauses-c1.ensures.0 (omega arith) (omega arith) (omega arith)
-    c.decode_list.ensures c.decode_list-2.ensures c.decode_list-3.ensures
+    c.decode_list-nodes.ensures c.decode_list-expressions.ensures c.decode_list-clauses.ensures
 
 pub returns : goal.returns
 returns c =
     let read = accepted c.args.job.now c.sizes.ensures c.in_ok-size.was in
     ready_of c.new.ensures.size c.new.ensures.nodes c.new.ensures.expressions c.new.ensures.clauses read
     (means_is c.args.job.now _ read _ _ _ _ _ c.first_expressions-e1.ensures.0 c.first_clauses-c1.ensures.0 (omega arith) (omega arith) (omega arith)
-    c.decode_list.ensures c.decode_list-2.ensures c.decode_list-3.ensures)
+    c.decode_list-nodes.ensures c.decode_list-expressions.ensures c.decode_list-clauses.ensures)
