@@ -1,6 +1,6 @@
 -- Nodes whose gate has no operand, and a step: kind by kind, what is written is what the gates force.
 -- Assumes nothing.
-use Rattle.std.proofs.Common.{◌≡◌, ◌≢◌, refl, sym, ◌∙◌, ap, subst, inl, inr, ◌⊎◌, Bool, true, false, ℕ, ◌-◌, ◌^◌, ◌<◌, List, [], ◌∷◌, ◌++◌, length, slice_set, arith, Contains}
+use Rattle.std.proofs.Common.{◌≡◌, ◌≢◌, refl, sym, ◌∙◌, ap, subst, inl, inr, ◌⊎◌, Bool, true, false, ℕ, ◌-◌, ◌^◌, ◌<◌, List, [], ◌∷◌, ◌++◌, length, slice_set, Contains}
 use Rattle.std.proofs.Math.Bool.{or-false}
 use Rattle.std.proofs.lemmas.List.Folds.{list_any-append}
 use native.Mathlib.Decide.{ℕ_discrete}
@@ -115,16 +115,16 @@ module _ (j : Job) (all : List Clause) where
       go m l (inl e) = both_ways e refl
       go m l (inr e) = b.at m l e
 
-  pub renewed_more : {yielded : List Clause} {row steady : List Pair} (k : Clause) → k.node < length row → Steady j steady → Renewed yielded row → Renewed (yielded ++ k ∷ []) (slice_set row k.node (pair_at steady k.node))
-  renewed_more {yielded} {row} {steady} k room s b = record { at = λ m l h. go m l h (ℕ_discrete m k.node) }
+  pub renewed_more : {yielded : List Clause} {row : List Pair} {new : Pair} (k : Clause) → k.node < length row → SteadyAt (j.netlist.node k.node).gate new → Renewed yielded row → Renewed (yielded ++ k ∷ []) (slice_set row k.node new)
+  renewed_more {yielded} {row} {new} k room s b = record { at = λ m l h. go m l h (ℕ_discrete m k.node) }
     where
       fewer : (m : ℕ) → m ≢ k.node → (named_in (yielded ++ k ∷ []) m ≡ true) ⊎ (named_in all m ≡ false) → (named_in yielded m ≡ true) ⊎ (named_in all m ≡ false)
       fewer m other (inl e) = inl (sym (list_any-append (λ (k : Clause). eqb k.node m) yielded (k ∷ []) ∙ rw (ne_eqb k.node m (λ e. other (sym e))) (or-false (named_in yielded m))) ∙ e)
       fewer m other (inr e) = inr e
 
-      go : (m : ℕ) → m < j.netlist.size → (named_in (yielded ++ k ∷ []) m ≡ true) ⊎ (named_in all m ≡ false) → Dec (m ≡ k.node) → SteadyAt (j.netlist.node m).gate (pair_at (slice_set row k.node (pair_at steady k.node)) m)
-      go m l h (yes e) = rw e (rw (stored_there row k.node (pair_at steady k.node) room) (s.at k.node (omega arith)))
-      go m l h (no e) = rw (stored_elsewhere row k.node (pair_at steady k.node) m e) (b.at m l (fewer m e h))
+      go : (m : ℕ) → m < j.netlist.size → (named_in (yielded ++ k ∷ []) m ≡ true) ⊎ (named_in all m ≡ false) → Dec (m ≡ k.node) → SteadyAt (j.netlist.node m).gate (pair_at (slice_set row k.node new) m)
+      go m l h (yes e) = rw e (rw (stored_there row k.node new room) s)
+      go m l h (no e) = rw (stored_elsewhere row k.node new m e) (b.at m l (fewer m e h))
 
   pub renewed_all : {row : List Pair} → Renewed all row → Steady j row
   renewed_all {row} b = record { at = λ m l. go m l (named_in all m) refl }

@@ -71,10 +71,9 @@ impl Group<'_> {
         if t == 0 {
             return self.gates.settle(row);
         }
-        let steady = &self.gates.steady;
         for clause in self.gates.plan.clauses_at(t) {
             let node = usize::from(clause.node);
-            row[node] = steady[node];
+            row[node] = self.gates.steady_at(node);
         }
     }
 }

@@ -1,11 +1,11 @@
 // The gates of a plan by their kind, and a step that visits them so: one tight loop for each kind.
-ghost use Rattle.std.specs.Prelude.{◌≡◌};
+ghost use Rattle.std.specs.Prelude.{◌≡◌, ◌<◌};
 ghost use Rattle.meaning.specs.Gates.{arity};
 ghost use Rattle.meaning.specs.declared.Gate.TheVariants.{Buf, Not, And, Or, Xor, Mux};
 ghost use Rattle.words.specs.Places.{Forces};
 ghost use Rattle.decoded.specs.Meant.{job_in};
 ghost use Rattle.groups.specs.Wired.{wires_of, Gathered, Steps};
-ghost use Rattle.groups.specs.Steady.{Steady};
+ghost use Rattle.groups.specs.Steady.{SteadyAt, Steady};
 
 use crate::rows::{Row, UNKNOWN};
 use crate::wires::{Wires, visit};
@@ -23,15 +23,12 @@ pub struct Gates<'a> {
     ors: Wires<'a>,
     xors: Wires<'a>,
     muxes: Wires<'a>,
-    // INPUT, ZERO and ONE force the same at every time: what they do, and X for the others.
-    pub steady: Row,
     ghost bufs_all: { Gathered (job_in plan.now) plan.now.size.n Buf (wires_of bufs.plan.now.nodes bufs.list.items) },
     ghost nots_all: { Gathered (job_in plan.now) plan.now.size.n Not (wires_of nots.plan.now.nodes nots.list.items) },
     ghost ands_all: { Gathered (job_in plan.now) plan.now.size.n And (wires_of ands.plan.now.nodes ands.list.items) },
     ghost ors_all: { Gathered (job_in plan.now) plan.now.size.n Or (wires_of ors.plan.now.nodes ors.list.items) },
     ghost xors_all: { Gathered (job_in plan.now) plan.now.size.n Xor (wires_of xors.plan.now.nodes xors.list.items) },
     ghost muxes_all: { Gathered (job_in plan.now) plan.now.size.n Mux (wires_of muxes.plan.now.nodes muxes.list.items) },
-    ghost is_steady: { Steady (job_in plan.now) steady },
 }
 
 // What a gate without operands forces; one that has some is handed nodes that could be either.
@@ -39,16 +36,6 @@ fn steady_pair(gate: Gate) -> Pair
     ensures { arity gate ≡ 0 → (p q r : Pair) → Forces gate p q r result }
 {
     gate_pair(gate, UNKNOWN, UNKNOWN, UNKNOWN)
-}
-
-fn steady_row(plan: &Plan) -> Row
-    ensures { Steady (job_in plan.now) result }
-{
-    let mut row = [UNKNOWN; 1008];
-    for (m, node) in plan.nodes[..plan.size.n].iter().enumerate() {
-        row[m] = steady_pair(node.gate);
-    }
-    row
 }
 
 impl<'a> Gates<'a> {
@@ -63,8 +50,15 @@ impl<'a> Gates<'a> {
             ors: Wires::of(plan, Or),
             xors: Wires::of(plan, Xor),
             muxes: Wires::of(plan, Mux),
-            steady: steady_row(plan),
         }
+    }
+
+    // INPUT, ZERO and ONE force the same at every time: what such a node is forced to, and X for the others.
+    pub fn steady_at(&self, m: usize) -> Pair
+        requires { m < self.now.plan.now.size.n }
+        ensures { SteadyAt ((job_in self.now.plan.now).netlist.node m).gate result }
+    {
+        steady_pair(self.plan.nodes[m].gate)
     }
 
     // Every node of the job is made steady.
@@ -72,7 +66,7 @@ impl<'a> Gates<'a> {
         ensures { Steady (job_in self.now.plan.now) row.new }
     {
         for m in 0..self.plan.size.n {
-            row[m] = self.steady[m];
+            row[m] = self.steady_at(m);
         }
     }
 

@@ -48,7 +48,8 @@ impl Group<'_> {
         ensures { Ran (job_of self.now) self.now.number (suc (last_time (job_of self.now))) result }
     {
         let mut now = [UNKNOWN; 1008];
-        let mut next = self.gates.steady;
+        let mut next = [UNKNOWN; 1008];
+        self.gates.settle(&mut next);
         let mut told = Told {
             collided: 0,
             missed: 0,

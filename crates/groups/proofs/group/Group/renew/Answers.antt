@@ -10,10 +10,10 @@ pub loop-clause-init : goal.loop-clause-init
 loop-clause-init c =
     (tt, tt, record { is = rw c.into_iter-clause-iterator.ensures.into_iter_gives c.clauses_at-clause-items.ensures }, c.told-row, renewed_none _ _ (c.requires.steady_but (omega arith)))
 
-pub bounds-steady-node : goal.bounds-steady-node
-bounds-steady-node c =
+pub steady_at-requires : goal.steady_at-requires
+steady_at-requires c =
     let k = walk_timely c.loop-clause.invariant.2 c.in-Some.ensures.steps in
-    omega (arith, k.within.node, c.from-node.ensures, c.args.self.now.gates.now.plan.now.decoded.n_most)
+    omega (arith, k.within.node, c.from-node.ensures)
 
 pub bounds-row-node : goal.bounds-row-node
 bounds-row-node c =
@@ -30,7 +30,7 @@ loop-clause-preserved c =
       tt,
       walk_more c.loop-clause.invariant.2 c.in-Some.ensures.steps,
       length-set c.loop-clause.row _ _ ∙ c.loop-clause.invariant.3,
-      renewed_more _ _ c.in-Some.clause room s.gates.now.is_steady c.loop-clause.invariant.4,
+      renewed_more _ _ c.in-Some.clause room (rw c.from-node.ensures at c.steady_at.ensures) c.loop-clause.invariant.4,
     )
 
 pub returns : goal.returns

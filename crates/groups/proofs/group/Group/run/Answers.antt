@@ -5,7 +5,7 @@ use Rattle.groups.proofs.RunLaws.{last_below, running_none, running_two, ran_pas
 use Rattle.groups.proofs.group.Group.run.Goals as goal
 
 pub loop-t-init : goal.loop-t-init
-loop-t-init c = let p = c.args.self.now.gates.now.plan.now in record { even = omega arith; running = running_none _ _ p.decoded.n_most; steady = ((λ later. absurd (omega arith)), c.args.self.now.gates.now.is_steady) }
+loop-t-init c = let p = c.args.self.now.gates.now.plan.now in record { even = omega arith; running = running_none _ _ p.decoded.n_most; steady = ((λ later. absurd (omega arith)), c.settle.ensures) }
 
 pub turn-first-requires : goal.turn-first-requires
 turn-first-requires c = record { time = omega (arith, last_below c.args.self.now.gates.now.plan.now); steady = c.loop-t.invariant.steady }
