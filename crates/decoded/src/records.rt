@@ -102,18 +102,19 @@ fn record<R: Decode>(job: &[u8], first: usize, i: usize) -> R
     R::decode(job, list.place(i))
 }
 
-// The first N of the `count` records that begin there; past them, what a record of zeros says.
+// Reads the first of the `count` records that begin there, as many as the list is long; past them all, a record of zeros stays.
+// The list is lent, and not returned, since it is large: each return would copy it.
 pub fn decode_list<R: Decode + Copy, const N: usize>(
     job: &[u8],
     first: usize,
     count: usize,
-) -> [R; N]
-    requires { (first < 65536) × (N ≤ 65536) }
-    ensures { (i : ℕ) (d : R) → i < N → slice_index_or result i d ≡ R.value_at (list_of (record_byte job.now first) (8 * count)) (8 * i) }
+    list: &mut [R; N],
+)
+    requires bounds { (first < 65536) × (N ≤ 65536) }
+    requires zeros { (i : ℕ) (d : R) → i < N → slice_index_or list.old i d ≡ R.value_at [] 0 }
+    ensures { (i : ℕ) (d : R) → i < N → slice_index_or list.new i d ≡ R.value_at (list_of (record_byte job.now first) (8 * count)) (8 * i) }
 {
-    let mut list = [R::decode(&[], 0); N];
     for i in 0..count.min(N) {
         list[i] = record(job, first, i);
     }
-    list
 }

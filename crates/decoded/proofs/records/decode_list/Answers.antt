@@ -1,7 +1,7 @@
 -- A record more is decoded, and what stands past them all says what a record of zeros does.
 -- Assumes nothing.
 use Rattle.std.proofs.Common.{◌≡◌, sym, ◌∙◌, [], ◌*◌, ◌+◌, ◌<◌, slice_index_or, slice_set, arith}
-use Rattle.std.proofs.lemmas.List.{get_or-replicate, get_or-set_same, get_or-set_other, length-replicate}
+use Rattle.std.proofs.lemmas.List.{get_or-set_same, get_or-set_other}
 use native.Mathlib.Decide.{dec_lt}
 use lib.ListN.{length-set}
 use borrow.Author.Count.{below_more}
@@ -11,11 +11,7 @@ use Rattle.stored.specs.Layout.{record_byte}
 use Rattle.decoded.proofs.records.decode_list.Goals as goal
 
 pub loop-i-init : goal.loop-i-init
-loop-i-init g c = record {
-  long = length-replicate g.row.N c.decode-list.result;
-  done = λ k d l. absurd (omega arith);
-  rest = λ k d l m. get_or-replicate g.row.N k c.decode-list.result d m ∙ c.decode-list.ensures;
-}
+loop-i-init g c = record { long = c.told-list; done = λ k d l. absurd (omega arith); rest = λ k d l m. c.requires.zeros k d m }
 
 pub loop-i-preserved : goal.loop-i-preserved
 loop-i-preserved g c =
