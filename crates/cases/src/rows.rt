@@ -93,6 +93,7 @@ impl<'a> Run<'a> {
         ensures case { self.new.case ≡ self.old.case }
         ensures next { self.new.next ≡ self.old.next + 1 }
     {
+        // The gates read the row before while this one is written.
         let mut row = self.row;
         self.force(&mut row);
         self.stimulate(&mut row);
