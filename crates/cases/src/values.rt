@@ -30,18 +30,32 @@ impl Not for Value {
     }
 }
 
-// AND is decided by a 0, OR by a 1: a table for each.
+// The two-operand rules are tables, a row for each value of the first operand: AND is decided by a 0, OR by a 1, XOR by neither.
+const AND: [[Value; 3]; 3] = [
+    [Value::Zero, Value::Zero, Value::Zero],
+    [Value::Zero, Value::One, Value::X],
+    [Value::Zero, Value::X, Value::X],
+];
+
+const OR: [[Value; 3]; 3] = [
+    [Value::Zero, Value::One, Value::X],
+    [Value::One, Value::One, Value::One],
+    [Value::X, Value::One, Value::X],
+];
+
+const XOR: [[Value; 3]; 3] = [
+    [Value::Zero, Value::One, Value::X],
+    [Value::One, Value::Zero, Value::X],
+    [Value::X, Value::X, Value::X],
+];
+
 impl BitAnd for Value {
     type Output = Value;
 
     ghost bitand_gives = { λ p q r. value_of r ≡ and_of (value_of p) (value_of q) };
 
     fn bitand(self, q: Value) -> Value {
-        match (self, q) {
-            (Value::Zero, _) | (_, Value::Zero) => Value::Zero,
-            (Value::One, Value::One) => Value::One,
-            (Value::X, _) | (_, Value::X) => Value::X,
-        }
+        AND[self as usize][q as usize]
     }
 }
 
@@ -51,11 +65,7 @@ impl BitOr for Value {
     ghost bitor_gives = { λ p q r. value_of r ≡ or_of (value_of p) (value_of q) };
 
     fn bitor(self, q: Value) -> Value {
-        match (self, q) {
-            (Value::One, _) | (_, Value::One) => Value::One,
-            (Value::Zero, Value::Zero) => Value::Zero,
-            (Value::X, _) | (_, Value::X) => Value::X,
-        }
+        OR[self as usize][q as usize]
     }
 }
 
@@ -65,11 +75,7 @@ impl BitXor for Value {
     ghost bitxor_gives = { λ p q r. value_of r ≡ xor_of (value_of p) (value_of q) };
 
     fn bitxor(self, q: Value) -> Value {
-        match (self, q) {
-            (Value::X, _) | (_, Value::X) => Value::X,
-            (Value::Zero, Value::Zero) | (Value::One, Value::One) => Value::Zero,
-            (Value::Zero, Value::One) | (Value::One, Value::Zero) => Value::One,
-        }
+        XOR[self as usize][q as usize]
     }
 }
 
