@@ -1,3 +1,4 @@
+mod KindLaws
 pub mod WireLaws
 pub mod SteadyLaws
 pub mod Timed

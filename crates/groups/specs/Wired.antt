@@ -1,14 +1,12 @@
 -- The nodes of one kind of gate, what a visit of them writes, and a whole step.
 -- Assumes nothing.
-use Rattle.std.specs.Prelude.{◌≡◌, Bool, true, false, List, ℕ, ◌<◌, eqb, map, All, Contains}
+use Rattle.std.specs.Prelude.{◌≡◌, Bool, true, false, List, ℕ, ◌<◌, eqb, All, Contains}
 use Rattle.std.specs.List.{list_any}
 use Rattle.meaning.specs.Values.{Value, value}
 use Rattle.meaning.specs.declared.Gate.{Gate}
-use Rattle.meaning.specs.declared.Node.{Node}
 use Rattle.meaning.specs.Jobs.{Job}
 use Rattle.meaning.specs.Runs.{forces}
 use Rattle.words.specs.declared.Pair.{Pair}
-use Rattle.decoded.specs.Plans.{node_of}
 use Rattle.groups.specs.declared.wires.Wire.{Wire}
 use Rattle.groups.specs.Held.{pair_at, Held}
 
@@ -18,13 +16,6 @@ pub record InRow (w : Wire) : Type 0 where
   pub p : w.p < 1008
   pub q : w.q < 1008
   pub r : w.r < 1008
-
--- the wire of node m, and those of some nodes
-abbrev pub wire_of : List Node → ℕ → Wire
-wire_of nodes m = let d = node_of nodes m in record { node = m; p = d.p; q = d.q; r = d.r }
-
-abbrev pub wires_of : List Node → List ℕ → List Wire
-wires_of nodes ms = map (wire_of nodes) ms
 
 -- a wire stands for one of the job's first n nodes, which has this gate
 pub record Stands (j : Job) (n : ℕ) (gate : Gate) (w : Wire) : Type 0 where

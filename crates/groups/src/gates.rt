@@ -1,34 +1,29 @@
 // The gates of a plan by their kind, and a step that visits them so: one tight loop for each kind.
 ghost use Rattle.std.specs.Prelude.{◌≡◌, ◌<◌};
 ghost use Rattle.meaning.specs.Gates.{arity};
-ghost use Rattle.meaning.specs.declared.Gate.TheVariants.{Buf, Not, And, Or, Xor, Mux};
 ghost use Rattle.words.specs.Places.{Forces};
 ghost use Rattle.decoded.specs.Meant.{job_in};
-ghost use Rattle.groups.specs.Wired.{wires_of, Gathered, Steps};
+ghost use Rattle.groups.specs.Wired.{Steps};
+ghost use Rattle.groups.specs.Kinds.{Sorted};
 ghost use Rattle.groups.specs.Steady.{SteadyAt, Steady};
 
 use crate::rows::{Row, UNKNOWN};
-use crate::wires::{Wires, visit};
+use crate::wires::{Wires, gather, visit};
 use decoded::Plan;
 use meaning::Gate::{self, And, Buf, Mux, Not, Or, Xor};
 use words::{Pair, gate_pair};
 
-// Made once a job. A field for each kind, and no list of kinds: each `visit` of a step is compiled with its own gate.
+// Made once a job: all gates with operands in one list, kind by kind. The BUFs come first, and each other kind where its field says.
 #[derive(Drop)]
 pub struct Gates<'a> {
     pub plan: &'a Plan,
-    bufs: Wires<'a>,
-    nots: Wires<'a>,
-    ands: Wires<'a>,
-    ors: Wires<'a>,
-    xors: Wires<'a>,
-    muxes: Wires<'a>,
-    ghost bufs_all: { Gathered (job_in plan.now) plan.now.size.n Buf (wires_of bufs.plan.now.nodes bufs.list.items) },
-    ghost nots_all: { Gathered (job_in plan.now) plan.now.size.n Not (wires_of nots.plan.now.nodes nots.list.items) },
-    ghost ands_all: { Gathered (job_in plan.now) plan.now.size.n And (wires_of ands.plan.now.nodes ands.list.items) },
-    ghost ors_all: { Gathered (job_in plan.now) plan.now.size.n Or (wires_of ors.plan.now.nodes ors.list.items) },
-    ghost xors_all: { Gathered (job_in plan.now) plan.now.size.n Xor (wires_of xors.plan.now.nodes xors.list.items) },
-    ghost muxes_all: { Gathered (job_in plan.now) plan.now.size.n Mux (wires_of muxes.plan.now.nodes muxes.list.items) },
+    wires: Wires,
+    nots: usize,
+    ands: usize,
+    ors: usize,
+    xors: usize,
+    muxes: usize,
+    ghost sorted: { Sorted (job_in plan.now) plan.now.size.n wires.items nots ands ors xors muxes },
 }
 
 // What a gate without operands forces; one that has some is handed nodes that could be either.
@@ -42,14 +37,26 @@ impl<'a> Gates<'a> {
     pub fn new(plan: &'a Plan) -> Gates<'a>
         ensures { result.plan.now ≡ plan.now }
     {
+        let mut wires = Wires::new();
+        gather(plan, Buf, &mut wires);
+        let nots = wires.len();
+        gather(plan, Not, &mut wires);
+        let ands = wires.len();
+        gather(plan, And, &mut wires);
+        let ors = wires.len();
+        gather(plan, Or, &mut wires);
+        let xors = wires.len();
+        gather(plan, Xor, &mut wires);
+        let muxes = wires.len();
+        gather(plan, Mux, &mut wires);
         Gates {
             plan,
-            bufs: Wires::of(plan, Buf),
-            nots: Wires::of(plan, Not),
-            ands: Wires::of(plan, And),
-            ors: Wires::of(plan, Or),
-            xors: Wires::of(plan, Xor),
-            muxes: Wires::of(plan, Mux),
+            wires,
+            nots,
+            ands,
+            ors,
+            xors,
+            muxes,
         }
     }
 
@@ -76,11 +83,42 @@ impl<'a> Gates<'a> {
         ensures steps { Steps (job_in self.now.plan.now) now.now next.new }
         ensures steady { Steady (job_in self.now.plan.now) next.new }
     {
-        visit(&self.bufs, now, next, |p, q, r| gate_pair(Buf, p, q, r));
-        visit(&self.nots, now, next, |p, q, r| gate_pair(Not, p, q, r));
-        visit(&self.ands, now, next, |p, q, r| gate_pair(And, p, q, r));
-        visit(&self.ors, now, next, |p, q, r| gate_pair(Or, p, q, r));
-        visit(&self.xors, now, next, |p, q, r| gate_pair(Xor, p, q, r));
-        visit(&self.muxes, now, next, |p, q, r| gate_pair(Mux, p, q, r));
+        let wires = self.wires.as_slice();
+        visit(
+            &wires[..self.nots],
+            now,
+            next,
+            |p, q, r| gate_pair(Buf, p, q, r),
+        );
+        visit(
+            &wires[self.nots..self.ands],
+            now,
+            next,
+            |p, q, r| gate_pair(Not, p, q, r),
+        );
+        visit(
+            &wires[self.ands..self.ors],
+            now,
+            next,
+            |p, q, r| gate_pair(And, p, q, r),
+        );
+        visit(
+            &wires[self.ors..self.xors],
+            now,
+            next,
+            |p, q, r| gate_pair(Or, p, q, r),
+        );
+        visit(
+            &wires[self.xors..self.muxes],
+            now,
+            next,
+            |p, q, r| gate_pair(Xor, p, q, r),
+        );
+        visit(
+            &wires[self.muxes..],
+            now,
+            next,
+            |p, q, r| gate_pair(Mux, p, q, r),
+        );
     }
 }

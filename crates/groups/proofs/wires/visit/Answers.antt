@@ -1,29 +1,22 @@
--- A node more: it is given.
+-- A wire more: its node is given.
 -- Assumes nothing.
-use Rattle.std.proofs.Common.{sym, ◌∙◌, ◌<◌, [], ◌∷◌, take, length, slice_index_or, arith}
-use Rattle.std.proofs.lemmas.List.{take_more, map-append}
+use Rattle.std.proofs.Common.{◌∙◌, ◌<◌, length, slice_index_or, arith}
+use Rattle.std.proofs.lemmas.List.{take_more}
 use Rattle.std.proofs.lemmas.List.Elements.{All-get_or}
 use lib.ListN.{length-set}
-use Rattle.groups.specs.Wired.{wire_of}
+use Rattle.groups.specs.declared.wires.Wire.{Wire}
+use Rattle.groups.specs.Wired.{InRow}
 use Rattle.groups.proofs.WireLaws.{visits_more}
 use Rattle.groups.proofs.wires.visit.Goals as goal
 
-pub wire-wire-requires : goal.wire-wire-requires
-wire-wire-requires g c =
-    let items = c.as_slice-m-items.result.now in
-    let l : c.loop-m.m-index < length items = omega arith in
-    let ws = c.args.wires.now in
-    All-get_or (λ m. m < ws.plan.now.size.n) items c.loop-m.m-index 0 l (rw c.as_slice-m-items.ensures.value ws.below)
-
-pub loop-m-preserved : goal.loop-m-preserved
-loop-m-preserved g c =
-    let items = c.as_slice-m-items.result.now in
-    let l : c.loop-m.m-index < length items = omega arith in
-    let nodes = c.args.wires.now.plan.now.nodes in
-    let m = slice_index_or items c.loop-m.m-index 0 in
-    let w = c.wire-wire.result in
+pub loop-wire-preserved : goal.loop-wire-preserved
+loop-wire-preserved g c =
+    let items = c.args.wires.now in
+    let l : c.loop-wire.wire-index < length items = omega arith in
+    let none : Wire = record { node = 0; p = 0; q = 0; r = 0 } in
+    let inside : InRow (slice_index_or items c.loop-wire.wire-index none) = All-get_or InRow items c.loop-wire.wire-index none l c.requires.inside in
     record {
-      long = length-set c.loop-m.next _ _ ∙ c.loop-m.invariant.long;
-      visits = rw (take_more items c.loop-m.m-index 0 l, map-append (wire_of nodes) (take c.loop-m.m-index items) (m ∷ []), c.from-in-loop-m-3.ensures, sym c.wire-wire.ensures.is)
-          (visits_more w c.force.result (omega (arith, c.wire-wire.ensures.inside.node, c.loop-m.invariant.long)) (rw (c.from.ensures, c.from-in-loop-m.ensures, c.from-in-loop-m-2.ensures) at c.force.ensures) c.loop-m.invariant.visits);
+      long = length-set c.loop-wire.next _ _ ∙ c.loop-wire.invariant.long;
+      visits = rw (take_more items c.loop-wire.wire-index none l, c.from-in-loop-wire-3.ensures)
+          (visits_more (slice_index_or items c.loop-wire.wire-index none) c.force.result (omega (arith, inside.node, c.loop-wire.invariant.long)) (rw (c.from.ensures, c.from-in-loop-wire.ensures, c.from-in-loop-wire-2.ensures) at c.force.ensures) c.loop-wire.invariant.visits);
     }
