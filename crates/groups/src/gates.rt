@@ -84,41 +84,17 @@ impl<'a> Gates<'a> {
         ensures steady { Steady (job_in self.now.plan.now) next.new }
     {
         let wires = self.wires.as_slice();
-        visit(
-            &wires[..self.nots],
-            now,
-            next,
-            |p, q, r| gate_pair(Buf, p, q, r),
-        );
-        visit(
-            &wires[self.nots..self.ands],
-            now,
-            next,
-            |p, q, r| gate_pair(Not, p, q, r),
-        );
-        visit(
-            &wires[self.ands..self.ors],
-            now,
-            next,
-            |p, q, r| gate_pair(And, p, q, r),
-        );
-        visit(
-            &wires[self.ors..self.xors],
-            now,
-            next,
-            |p, q, r| gate_pair(Or, p, q, r),
-        );
-        visit(
-            &wires[self.xors..self.muxes],
-            now,
-            next,
-            |p, q, r| gate_pair(Xor, p, q, r),
-        );
-        visit(
-            &wires[self.muxes..],
-            now,
-            next,
-            |p, q, r| gate_pair(Mux, p, q, r),
-        );
+        let bufs = &wires[..self.nots];
+        let nots = &wires[self.nots..self.ands];
+        let ands = &wires[self.ands..self.ors];
+        let ors = &wires[self.ors..self.xors];
+        let xors = &wires[self.xors..self.muxes];
+        let muxes = &wires[self.muxes..];
+        visit(bufs, now, next, |p, q, r| gate_pair(Buf, p, q, r));
+        visit(nots, now, next, |p, q, r| gate_pair(Not, p, q, r));
+        visit(ands, now, next, |p, q, r| gate_pair(And, p, q, r));
+        visit(ors, now, next, |p, q, r| gate_pair(Or, p, q, r));
+        visit(xors, now, next, |p, q, r| gate_pair(Xor, p, q, r));
+        visit(muxes, now, next, |p, q, r| gate_pair(Mux, p, q, r));
     }
 }
