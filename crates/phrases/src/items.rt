@@ -18,7 +18,7 @@ fn is_gap(b: u8) -> bool
     matches!(b, b' ' | b'\n' | b'\r')
 }
 
-fn is_digit(b: u8) -> bool
+pub fn is_digit(b: u8) -> bool
     ensures { result ≡ is_digit b }
 {
     b.is_ascii_digit()
