@@ -28,7 +28,8 @@ fn counted(value: usize, at: usize, end: usize) -> Result<Counted, Stopped>
     Ok(Counted { value, at: end })
 }
 
-// A number below the limit, without zeros in front.
+// A number below the limit, without zeros in front. Inlined where the limit is a constant.
+#[inline(always)]
 fn number(text: &[u8], at: usize, limit: usize) -> Result<Counted, Stopped>
     requires { (at ≤ length text.now) × NoGap text.now at × (limit ≤ 65536) }
     ensures { CountedAt text.now false (below limit ∷ []) limit at result }
