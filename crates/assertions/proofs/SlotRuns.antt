@@ -1,7 +1,7 @@
 -- The slots of a clause: a number digit by digit, a word, and what stops reading in each.
 -- Assumes nothing.
 use borrow.Author.Tests.{eq-eqb, lt-ltb, le-ltb}
-use mathlib.Core.Path.{◌≡◌, refl, sym, ◌∙◌, subst}
+use mathlib.Core.Path.{◌≡◌, refl, sym, ◌∙◌, ap, subst}
 use mathlib.Core.Logic.{◌⊎◌, inl, inr}
 use mathlib.Core.Bool.{Bool, true, false}
 use mathlib.Core.List.{List, [], ◌∷◌, ◌++◌, append-nil}
@@ -22,11 +22,11 @@ use Rattle.grammar.specs.Items.{Keyword, Mark, number, word, letters}
 use Rattle.grammar.specs.Guards.{Guard}
 use Rattle.grammar.specs.Points.{Slot, saying, below, telling, Point, word_number, ended, step, finished}
 use Rattle.grammar.specs.Bytewise.{Outcome, staying, going_on, run, ready, digits, is_digit, fed, stops}
-use Rattle.phrases.specs.Places.{Passes, Stands, Skips, NoGap, Broken, Spelt}
+use Rattle.phrases.specs.Places.{Stands, Skips, NoGap, Broken, Spelt}
 use Rattle.phrases.specs.GuardsRead.{in_phase}
 use Rattle.assertions.specs.ClausesRead.{awaiting, Fills, Fails, CountedAt, LabelledAt}
 use Rattle.grammar.proofs.Slots.{same_word}
-use Rattle.phrases.proofs.Runs.{Digit, digit_in}
+use Rattle.phrases.proofs.Runs.{Digit}
 use Rattle.grammar.proofs.Fed.{fed_digit, fed_zero, fed_more}
 use Rattle.grammar.proofs.SpelledRuns.{NoDigit, number_passed}
 use Rattle.phrases.proofs.Feeding.{run_byte, run_some}
@@ -44,17 +44,22 @@ digit_not text i f = go (dec_lt i (length text))
     go (yes h) = subst NoDigit (sym (drop-cons text i 0 h)) (f h)
     go (no h) = subst NoDigit (sym (drop_of_length-le text {i = i} (omega arith))) tt
 
--- digits in the front of a text, and the end of them
-module _ (text : List ℕ) (m : ℕ) {i q : ℕ} (d : Passes is_digit (take m text) i q) where
-  pub front_digit : (j : ℕ) → i ≤ j → j < q → Digit text j
-  front_digit j l h =
-      let x = digit_in d j l h in
-      let inside : j < m = omega (arith, x.inside, length-take m text) in
-      let same = get_or-take m text j 0 inside in
-      record { inside = omega (arith, x.inside, length-take m text); low = rw same at x.low; high = rw same at x.high }
+-- a byte in the front of a text, and the end of it
+module _ (text front : List ℕ) (m : ℕ) (e : front ≡ take m text) where
+  pub same_byte : (j : ℕ) → j < length front → byte_at front j ≡ byte_at text j
+  same_byte j l = rw e (get_or-take m text j 0 (omega (arith, length-take m text, ap length e)))
 
-  front_over : q < m → NoDigitAt text q
-  front_over h l = rw (get_or-take m text q 0 h) at (d.ends (omega (arith, length-take m text)))
+  pub front_digit : {j : ℕ} {t : Bool} → j < length front → t ≡ is_digit (byte_at front j) → t ≡ true → Digit text j
+  front_digit {j} l tells so =
+      let f : is_digit (byte_at text j) ≡ true = rw (← same_byte j l) (sym tells ∙ so) in
+      let x = simp says at f in
+      record { inside = omega (arith, length-take m text, ap length e); low = x.0; high = x.1 }
+
+  pub front_other : {j : ℕ} {t : Bool} → j < length front → t ≡ is_digit (byte_at front j) → t ≡ false → NoDigitAt text j
+  front_other {j} l tells so = λ _. rw (← same_byte j l) (sym tells ∙ so)
+
+  pub front_end : length front < m → NoDigitAt text (length front)
+  front_end l = λ h. absurd (omega (arith, length-take m text, ap length e))
 
 module _ (k n : ℕ) (text : List ℕ) (p : Point) (used : ℕ) (g : Guard) (limit : ℕ) (s : Slot) (ss : List Slot) (ns : List ℕ) where
   abbrev P : Point
@@ -146,23 +151,30 @@ module _ {text : List ℕ} {limit i q v : ℕ} (c : Counting text limit i q v) w
   counting_zero d l z = record { comes = λ k n p used g s ss ns. c.comes l k n p used g s ss ns ∙ rw z (zero_digit k n text p used g limit s ss ns q d) }
 
   -- five digits at the most make a number below the limit
-  few_digits : limit ≤ 65536 → q < i + 6
+  pub few_digits : limit ≤ 65536 → q < i + 6
   few_digits few = go (dec_lt (i + 5) q)
     where
       go : Dec (i + 5 < q) → q < i + 6
       go (yes l) = let most : 100000 ≤ v = c.large 4 l in absurd (omega (arith, c.small (omega arith)))
       go (no l) = omega arith
 
-  pub counting_end : limit ≤ 65536 → Passes is_digit (take (i + 6) text) i q → ¬ (q ≡ i) → (v < limit) × Fills text false (below limit ∷ []) i q v
-  counting_end few d apart =
-      let l : i < q = omega (arith, c.forward) in
-      let f = front_over text (i + 6) d (few_digits few) in
-      (c.small l, record { past = l; inside = c.inside; comes = λ k n p used g s ss ns. c.comes l k n p used g s ss ns ∙ number_done k n text p used g limit s ss ns q v (c.small l) f })
+  -- no digit more
+  module _ (clean : NoGap text i) (over : NoDigitAt text q) where
+    counting_end : ¬ (q ≡ i) → (v < limit) × Fills text false (below limit ∷ []) i q v
+    counting_end apart =
+        let l : i < q = omega (arith, c.forward) in
+        (c.small l, record { past = l; inside = c.inside; comes = λ k n p used g s ss ns. c.comes l k n p used g s ss ns ∙ number_done k n text p used g limit s ss ns q v (c.small l) over })
 
-pub counting_empty : {text : List ℕ} {limit i : ℕ} → NoGap text i → Passes is_digit (take (i + 6) text) i i → Fails text false (below limit ∷ []) i i
-counting_empty {text} {limit} {i} clean d =
-    let f : NoDigitAt text i = front_over text (i + 6) d (omega arith) in
-    record { comes = λ k n p used g s ss ns. no_number k n text p used g limit s ss ns i clean f }
+    counting_empty : q ≡ i → Fails text false (below limit ∷ []) i i
+    counting_empty e = record { comes = λ k n p used g s ss ns. no_number k n text p used g limit s ss ns i clean (subst (NoDigitAt text) e over) }
+
+    pub counting_over : {r : Result Counted Stopped} → MatchResult r (λ y. (y.value ≡ v) × (y.at ≡ q) × ¬ (q ≡ i)) (λ y. (y.at ≡ i) × (q ≡ i)) → CountedAt text false (below limit ∷ []) limit i r
+    counting_over {r} h = record { says = go r h }
+      where
+        go : (r : Result Counted Stopped) → MatchResult r (λ y. (y.value ≡ v) × (y.at ≡ q) × ¬ (q ≡ i)) (λ y. (y.at ≡ i) × (q ≡ i))
+            → MatchResult r (λ y. (y.value < limit) × Fills text false (below limit ∷ []) i y.at y.value) (λ y. Fails text false (below limit ∷ []) i y.at)
+        go (Ok u) h = rw (h.0, h.1) (counting_end h.2)
+        go (Err u) h = rw h.0 (counting_empty h.1)
 
 -- a word, and a number after it, with gaps before each
 module _ (k n : ℕ) (text : List ℕ) (p : Point) (used : ℕ) (g : Guard) (s : Slot) (ss : List Slot) (ns : List ℕ) where

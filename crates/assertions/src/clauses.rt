@@ -1,48 +1,58 @@
 // The rest of a clause after its guard: a node, a value and a time.
-ghost use Rattle.std.specs.Prelude.{◌≡◌, true, false, [], ◌∷◌, ◌+◌, ◌≤◌, ◌<◌, length, take};
+ghost use Rattle.std.specs.Prelude.{◌≡◌, true, false, [], ◌∷◌, ◌+◌, ◌≤◌, ◌<◌, length, take, MatchResult};
 ghost use Rattle.grammar.specs.Points.{below, clause_slots};
-ghost use Rattle.grammar.specs.Bytewise.{is_digit};
-ghost use Rattle.phrases.specs.Places.{Passes, NoGap};
+ghost use Rattle.phrases.specs.Places.{NoGap};
 ghost use Rattle.assertions.specs.ClausesRead.{CountedAt, LabelledAt, ToldAt};
 
 use crate::parts::{Counted, Limits, Told};
-use phrases::items::{Stopped, after_digits, is_at, skip, spell};
+use phrases::items::{Stopped, is_at, is_digit, skip, spell};
 
 // No number below 65536 has six digits: it is refused at the sixth, or before.
 const FRONT: usize = 6;
 
-// The place after the digits that stand here, six at the most: what comes after six is not looked at.
-fn after_first_digits(text: &[u8], at: usize) -> usize
+// The text up to the sixth byte from here on: what comes after it is not looked at.
+fn front(text: &[u8], at: usize) -> &[u8]
     requires { at ≤ length text.now }
-    ensures { Passes is_digit (take (at + 6) text.now) at result }
+    ensures { result.now ≡ take (at + 6) text.now }
 {
-    let front = &text[..text.len().min(at + FRONT)];
-    after_digits(front, at)
+    &text[..text.len().min(at + FRONT)]
 }
 
-// A number below the limit, without zeros in front.
-fn number(text: &[u8], at: usize, limit: usize) -> Result<Counted, Stopped>
-    requires { (at ≤ length text.now) × NoGap text.now at × (limit ≤ 65536) }
-    ensures { CountedAt text.now false (below limit ∷ []) limit at result }
+// The number counted from one place to its end; none, where no digit stands between them.
+fn counted(value: usize, at: usize, end: usize) -> Result<Counted, Stopped>
+    ensures { MatchResult result (λ c. (c.value ≡ value) × (c.at ≡ end) × (¬ (end ≡ at))) (λ s. (s.at ≡ at) × (end ≡ at)) }
 {
-    let end = after_first_digits(text, at);
     if end == at {
         return Err(Stopped { at });
-    }
-    let mut value = 0;
-    for q in at..end {
-        if q > at && value == 0 {
-            return Err(Stopped { at: q });
-        }
-        value = 10 * value + usize::from(text[q] - b'0');
-        if value >= limit {
-            return Err(Stopped { at: q });
-        }
     }
     Ok(Counted { value, at: end })
 }
 
-// A word and a number, with gaps before each.
+// A number below the limit, without zeros in front. Inlined where the limit is a constant.
+#[inline(always)]
+fn number(text: &[u8], at: usize, limit: usize) -> Result<Counted, Stopped>
+    requires { (at ≤ length text.now) × NoGap text.now at × (limit ≤ 65536) }
+    ensures { CountedAt text.now false (below limit ∷ []) limit at result }
+{
+    let digits = front(text, at);
+    let mut value = 0;
+    for q in at..digits.len() {
+        if !is_digit(digits[q]) {
+            return counted(value, at, q);
+        }
+        if q > at && value == 0 {
+            return Err(Stopped { at: q });
+        }
+        value = 10 * value + usize::from(digits[q] - b'0');
+        if value >= limit {
+            return Err(Stopped { at: q });
+        }
+    }
+    counted(value, at, digits.len())
+}
+
+// A word and a number, with gaps before each. Inlined, since word and limit are constants at both calls.
+#[inline(always)]
 fn labelled(text: &[u8], at: usize, word: &[u8], limit: usize) -> Result<Counted, Stopped>
     requires { (at ≤ length text.now) × (limit ≤ 65536) }
     ensures { LabelledAt text.now word.now limit at result }

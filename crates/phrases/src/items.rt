@@ -18,7 +18,7 @@ fn is_gap(b: u8) -> bool
     matches!(b, b' ' | b'\n' | b'\r')
 }
 
-fn is_digit(b: u8) -> bool
+pub fn is_digit(b: u8) -> bool
     ensures { result ≡ is_digit b }
 {
     b.is_ascii_digit()
@@ -30,7 +30,12 @@ fn skip_while<F: Fn(u8) -> bool>(text: &[u8], at: usize, test: F) -> usize
     requires callable { F.IsAlwaysCallable test }
     ensures { (p : ℕ → Bool) → ((b : ℕ) (r : Bool) → F.post test b r → r ≡ p b) → Passes p text.now at result }
 {
-    at + text[at..].iter().take_while(|b| test(**b)).count()
+    for q in at..text.len() {
+        if !test(text[q]) {
+            return q;
+        }
+    }
+    text.len()
 }
 
 // The first place from `at` on that is no gap.
