@@ -17,8 +17,8 @@ pub struct Nesting {
     pub k: usize,
     pub depth: usize,
     pub pending: usize,
-    ghost few_variables: { k ≤ 12 },
-    ghost opened: { depth ≤ 32 },
+    pub ghost few_variables: { k ≤ 12 },
+    pub ghost opened: { depth ≤ 32 },
 }
 
 #[derive(Clone, Copy, Debug, PartialEq, Eq)]
