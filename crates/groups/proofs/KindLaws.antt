@@ -9,28 +9,18 @@ use borrow.Author.Tests.{eq-eqb, ne_eqb}
 use lib.Dec.{eqb}
 use Rattle.meaning.specs.declared.Gate.{Gate}
 use Rattle.meaning.specs.declared.Gate.TheVariants.{Input, Zero, One, Buf, Not, And, Or, Xor, Mux}
+use Rattle.meaning.specs.Gates.{gate_of_code}
 use Rattle.meaning.specs.Jobs.{Job}
 use Rattle.groups.specs.declared.wires.Wire.{Wire}
 use Rattle.groups.specs.Wired.{InRow, Gathered}
 use Rattle.groups.specs.Kinds.{kind, tally, Gathers, Sorted}
 use Rattle.groups.proofs.WireLaws.{gathered_skip, gathered_more}
 
--- gates of one number are one gate
+-- gates of one code are one gate
 pub kind_same : (g h : Gate) → kind g ≡ kind h → g ≡ h
-kind_same g h e = sym (back g) ∙ ap at e ∙ back h
+kind_same g h e = sym (back g) ∙ ap gate_of_code e ∙ back h
   where
-    at : ℕ → Gate
-    at zero = Input
-    at (suc zero) = Zero
-    at (suc (suc zero)) = One
-    at (suc (suc (suc zero))) = Buf
-    at (suc (suc (suc (suc zero)))) = Not
-    at (suc (suc (suc (suc (suc zero))))) = And
-    at (suc (suc (suc (suc (suc (suc zero)))))) = Or
-    at (suc (suc (suc (suc (suc (suc (suc zero))))))) = Xor
-    at (suc (suc (suc (suc (suc (suc (suc (suc n)))))))) = Mux
-
-    back : (g : Gate) → at (kind g) ≡ g
+    back : (g : Gate) → gate_of_code (kind g) ≡ g
     back Input = refl
     back Zero = refl
     back One = refl
@@ -98,12 +88,15 @@ module _ {j : Job} {m : ℕ} {gate : Gate} {before after : List Wire} (g : Gathe
     gathered = gathered_more g.gathered w here is;
   }
 
+pub longer : {j : Job} {n : ℕ} {gate : Gate} {before after : List Wire} → Gathers j n gate before after → length after ≡ length before + tally j n (kind gate)
+longer {before = before} g = ap length g.is ∙ length-append before g.more ∙ ap (λ k. length before + k) g.count
+
 -- where one more has the gate, there is room for it
 pub room : {j : Job} {m n : ℕ} {gate : Gate} {before after : List Wire} → Gathers j m gate before after → m < n → (j.netlist.node m).gate ≡ gate → length before + tally j n (kind gate) ≤ 1008 → length after < 1008
-room {j} {m} {n} {gate} {before} {after} g l same few =
+room {j} {m} {n} {gate} g l same few =
     let grows : tally j (suc m) (kind gate) ≤ tally j n (kind gate) = tally_grows j (suc m) n (kind gate) (omega arith) in
     let one : tally j (suc m) (kind gate) ≡ tally j m (kind gate) + 1 = rw (eq-eqb (kind (j.netlist.node m).gate) (kind gate) (ap kind same)) refl in
-    let long : length after ≡ length before + tally j m (kind gate) = ap length g.is ∙ length-append before g.more ∙ ap (λ k. length before + k) g.count in
+    let long = longer g in
     omega (arith, grows, one, long, few)
 
 -- what was gathered after some wires stands behind them, whatever came later
@@ -114,9 +107,6 @@ record Behind (xs ys : List Wire) : Type 0 where
 module _ {j : Job} {n : ℕ} {gate : Gate} {before after : List Wire} (g : Gathers j n gate before after) where
   behind : Behind before after
   behind = record { rest = g.more; is = g.is }
-
-  pub longer : length after ≡ length before + tally j n (kind gate)
-  longer = ap length g.is ∙ length-append before g.more ∙ ap (λ k. length before + k) g.count
 
   further : {xs : List Wire} → Behind xs before → Behind xs after
   further {xs} b = record { rest = b.rest ++ g.more; is = g.is ∙ ap (λ ys. ys ++ g.more) b.is ∙ append_assoc xs b.rest g.more }

@@ -7,7 +7,7 @@ use Rattle.meaning.specs.Jobs.{Job}
 use Rattle.groups.specs.declared.wires.Wire.{Wire}
 use Rattle.groups.specs.Wired.{InRow, Gathered}
 
--- a gate's number
+-- a gate's code
 abbrev pub kind : Gate → ℕ
 kind Input = 0
 kind Zero = 1
@@ -19,7 +19,7 @@ kind Or = 6
 kind Xor = 7
 kind Mux = 8
 
--- how many of the first n nodes have the gate of a number
+-- how many of the first n nodes have the gate of a code
 abbrev pub tally : Job → ℕ → ℕ → ℕ
 tally j zero k = 0
 tally j (suc n) k = tally j n k + cond (eqb (kind (j.netlist.node n).gate) k) 1 0

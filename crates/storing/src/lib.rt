@@ -111,7 +111,7 @@ impl Records<'_> {
         512 * self.layout.block_count()
     }
 
-    // The first `size` bytes of the stored job, and of blocks after it where it has fewer. A block's check is worked out once, at its first byte.
+    // The first `size` bytes of the stored job, and of blocks after it where it has fewer. A block's check is worked out once.
     pub fn write_front(&self, size: usize, out: &mut [u8])
         requires { (size ≤ length out.old) × (size < 16777216) }
         ensures { out.new ≡ list_of (λ j. block_byte (records_in self.now) (j / 512) (j % 512)) size ++ drop size out.old }
