@@ -99,18 +99,16 @@ module _ (k n : ℕ) (text : List ℕ) (p : Point) (used : ℕ) (g : Guard) (lim
       nothing_goes k n text P i (λ _. refl) clean (λ m _. refl)
       (λ d h st. let e : is_digit (byte_at text i) ≡ true = simp says (omega (arith, st.is), omega (arith, st.is)) in both_ways e (f st.inside)) (λ v _. refl) (λ w _. refl)
 
--- digits so far, with no zero in front: each but the first makes the number ten times larger
+-- digits so far
 pub record Counting (text : List ℕ) (limit i q v : ℕ) : Type 0 where
   pub forward : i ≤ q
   pub inside : q ≤ length text
   pub none_yet : q ≡ i → v ≡ 0
   pub small : i < q → v < limit
-  pub large : (m : ℕ) → i + suc m < q → 10 ^ suc m ≤ v
   pub comes : i < q → (k n : ℕ) (p : Point) (used : ℕ) (g : Guard) (s : Slot) (ss : List Slot) (ns : List ℕ) → awaiting k n text i (ready false) p used g (below limit ∷ s ∷ ss) ns ≡ awaiting k n text q (digits v) p used g (below limit ∷ s ∷ ss) ns
 
 pub counting_none : (text : List ℕ) (limit i : ℕ) → i ≤ length text → Counting text limit i i 0
-counting_none text limit i h =
-    record { forward = omega arith; inside = h; none_yet = λ _. refl; small = λ l. absurd (omega arith); large = λ m l. absurd (omega arith); comes = λ l. absurd (omega arith) }
+counting_none text limit i h = record { forward = omega arith; inside = h; none_yet = λ _. refl; small = λ l. absurd (omega arith); comes = λ l. absurd (omega arith) }
 
 module _ {text : List ℕ} {limit i q v : ℕ} (c : Counting text limit i q v) where
   -- one digit more, of value x
@@ -125,14 +123,6 @@ module _ {text : List ℕ} {limit i q v : ℕ} (c : Counting text limit i q v) w
             let first : 10 * v + x ≡ byte_at text q - 48 = omega (arith, c.none_yet here, same) in
             rw (first, sym here) (first_digit k n text p used g limit s ss ns q d)
 
-    larger : (m : ℕ) → i + suc m < q + 1 → 10 ^ suc m ≤ 10 * v + x
-    larger m h = go m h some
-      where
-        go : (m : ℕ) → i + suc m < q + 1 → (i < q) × ¬ (v ≡ 0) ⊎ (q ≤ i) → 10 ^ suc m ≤ 10 * v + x
-        go m h (inr l) = absurd (omega arith)
-        go zero h (inl l) = omega (arith, l.1)
-        go (suc m) h (inl l) = omega (arith, c.large m (omega arith))
-
     pub counting_more : 10 * v + x < limit → Counting text limit i (q + 1) (10 * v + x)
     counting_more h =
         record {
@@ -140,7 +130,6 @@ module _ {text : List ℕ} {limit i q v : ℕ} (c : Counting text limit i q v) w
           inside = omega (arith, d.inside);
           none_yet = λ e. absurd (omega (arith, c.forward));
           small = λ _. h;
-          large = larger;
           comes = λ l k n p used g s ss ns. counted k n p used g s ss ns ∙ made_goes k n text p used g limit s ss ns q (10 * v + x) h;
         }
 
@@ -150,31 +139,48 @@ module _ {text : List ℕ} {limit i q v : ℕ} (c : Counting text limit i q v) w
   pub counting_zero : Digit text q → i < q → v ≡ 0 → Fails text false (below limit ∷ []) i q
   counting_zero d l z = record { comes = λ k n p used g s ss ns. c.comes l k n p used g s ss ns ∙ rw z (zero_digit k n text p used g limit s ss ns q d) }
 
+  pub counting_end : NoDigitAt text q → ¬ (q ≡ i) → (v < limit) × Fills text false (below limit ∷ []) i q v
+  counting_end over apart =
+      let l : i < q = omega (arith, c.forward) in
+      (c.small l, record { past = l; inside = c.inside; comes = λ k n p used g s ss ns. c.comes l k n p used g s ss ns ∙ number_done k n text p used g limit s ss ns q v (c.small l) over })
+
+pub counting_empty : {text : List ℕ} {limit i : ℕ} → NoGap text i → NoDigitAt text i → Fails text false (below limit ∷ []) i i
+counting_empty {text} {limit} {i} clean over = record { comes = λ k n p used g s ss ns. no_number k n text p used g limit s ss ns i clean over }
+
+-- digits so far, with no zero in front: each but the first makes the number ten times larger
+pub record Growing (text : List ℕ) (limit i q v : ℕ) : Type 0 where
+  pub counting : Counting text limit i q v
+  pub large : (m : ℕ) → i + suc m < q → 10 ^ suc m ≤ v
+
+pub growing_none : (text : List ℕ) (limit i : ℕ) → i ≤ length text → Growing text limit i i 0
+growing_none text limit i h = record { counting = counting_none text limit i h; large = λ m l. absurd (omega arith) }
+
+module _ {text : List ℕ} {limit i q v : ℕ} (b : Growing text limit i q v) where
+  pub growing_more : {x : ℕ} → Digit text q → x ≡ byte_at text q - 48 → (i < q) × ¬ (v ≡ 0) ⊎ (q ≤ i) → 10 * v + x < limit → Growing text limit i (q + 1) (10 * v + x)
+  growing_more {x} d same begun h = record { counting = counting_more b.counting d same begun h; large = λ m l. go m l begun }
+    where
+      go : (m : ℕ) → i + suc m < q + 1 → (i < q) × ¬ (v ≡ 0) ⊎ (q ≤ i) → 10 ^ suc m ≤ 10 * v + x
+      go m l (inr e) = absurd (omega arith)
+      go zero l (inl e) = omega (arith, e.1)
+      go (suc m) l (inl e) = omega (arith, b.large m (omega arith))
+
   -- five digits at the most make a number below the limit
   pub few_digits : limit ≤ 65536 → q < i + 6
   few_digits few = go (dec_lt (i + 5) q)
     where
       go : Dec (i + 5 < q) → q < i + 6
-      go (yes l) = let most : 100000 ≤ v = c.large 4 l in absurd (omega (arith, c.small (omega arith)))
+      go (yes l) = let most : 100000 ≤ v = b.large 4 l in absurd (omega (arith, b.counting.small (omega arith)))
       go (no l) = omega arith
 
-  -- no digit more
-  module _ (clean : NoGap text i) (over : NoDigitAt text q) where
-    counting_end : ¬ (q ≡ i) → (v < limit) × Fills text false (below limit ∷ []) i q v
-    counting_end apart =
-        let l : i < q = omega (arith, c.forward) in
-        (c.small l, record { past = l; inside = c.inside; comes = λ k n p used g s ss ns. c.comes l k n p used g s ss ns ∙ number_done k n text p used g limit s ss ns q v (c.small l) over })
-
-    counting_empty : q ≡ i → Fails text false (below limit ∷ []) i i
-    counting_empty e = record { comes = λ k n p used g s ss ns. no_number k n text p used g limit s ss ns i clean (subst (NoDigitAt text) e over) }
-
-    pub counting_over : {r : Result Counted Stopped} → MatchResult r (λ y. (y.value ≡ v) × (y.at ≡ q) × ¬ (q ≡ i)) (λ y. (y.at ≡ i) × (q ≡ i)) → CountedAt text false (below limit ∷ []) limit i r
-    counting_over {r} h = record { says = go r h }
-      where
-        go : (r : Result Counted Stopped) → MatchResult r (λ y. (y.value ≡ v) × (y.at ≡ q) × ¬ (q ≡ i)) (λ y. (y.at ≡ i) × (q ≡ i))
-            → MatchResult r (λ y. (y.value < limit) × Fills text false (below limit ∷ []) i y.at y.value) (λ y. Fails text false (below limit ∷ []) i y.at)
-        go (Ok u) h = rw (h.0, h.1) (counting_end h.2)
-        go (Err u) h = rw h.0 (counting_empty h.1)
+-- no digit more
+pub counting_over : {text : List ℕ} {limit i q v : ℕ} {r : Result Counted Stopped} → Counting text limit i q v → NoGap text i → NoDigitAt text q
+    → MatchResult r (λ y. (y.value ≡ v) × (y.at ≡ q) × ¬ (q ≡ i)) (λ y. (y.at ≡ i) × (q ≡ i)) → CountedAt text false (below limit ∷ []) limit i r
+counting_over {text} {limit} {i} {q} {v} {r} c clean over h = record { says = go r h }
+  where
+    go : (r : Result Counted Stopped) → MatchResult r (λ y. (y.value ≡ v) × (y.at ≡ q) × ¬ (q ≡ i)) (λ y. (y.at ≡ i) × (q ≡ i))
+        → MatchResult r (λ y. (y.value < limit) × Fills text false (below limit ∷ []) i y.at y.value) (λ y. Fails text false (below limit ∷ []) i y.at)
+    go (Ok u) h = rw (h.0, h.1) (counting_end c over h.2)
+    go (Err u) h = rw h.0 (counting_empty clean (subst (NoDigitAt text) h.1 over))
 
 -- a word, and a number after it, with gaps before each
 module _ (k n : ℕ) (text : List ℕ) (p : Point) (used : ℕ) (g : Guard) (s : Slot) (ss : List Slot) (ns : List ℕ) where

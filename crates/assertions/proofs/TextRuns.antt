@@ -32,13 +32,13 @@ use Rattle.assertions.proofs.ListRuns.{listing_stops}
 -- after `expect`
 module _ (k n : ℕ) (text : List ℕ) (gs : List Clause) (e : ℕ) where
   -- a word touches what stands next
-  expect_touched : {i q : ℕ} → Skips text i q → eqb q i && ltb i (length text) ≡ true → reading k n text i (ready true) (listing_at true gs e) ≡ stops i
+  pub expect_touched : {i q : ℕ} → Skips text i q → eqb q i && ltb i (length text) ≡ true → reading k n text i (ready true) (listing_at true gs e) ≡ stops i
   unfolding step
   expect_touched {i} {q} sk t =
       let x = simp says at t in
       touching_stops k n text (listing_at true gs e) i (λ o. absurd (omega (arith, x.1))) (subst (NoGap text) x.0 sk.ends) (λ m _. refl)
 
-  expect_goes : {i q : ℕ} → Skips text i q → eqb q i && ltb i (length text) ≡ false → reading k n text i (ready true) (listing_at true gs e) ≡ reading k n text q (ready false) (listing_at true gs e)
+  pub expect_goes : {i q : ℕ} → Skips text i q → eqb q i && ltb i (length text) ≡ false → reading k n text i (ready true) (listing_at true gs e) ≡ reading k n text q (ready false) (listing_at true gs e)
   expect_goes {i} {q} sk t = run_past k n text true (listing_at true gs e) sk (λ same. go same (dec_lt i (length text))) refl
     where
       go : q ≡ i → Dec (i < length text) → reading k n text q (ready true) (listing_at true gs e) ≡ reading k n text q (ready false) (listing_at true gs e)
@@ -60,10 +60,10 @@ module _ (k n : ℕ) (text : List ℕ) (gs : List Clause) (e : ℕ) where
   unfolding step
   expect_steps = refl
 
-  expect_read : {i q : ℕ} → Spelt text i (letters EXPECT) q → reading k n text i (ready false) (listing_at false gs e) ≡ reading k n text q (ready true) (listing_at true gs e)
+  pub expect_read : {i q : ℕ} → Spelt text i (letters EXPECT) q → reading k n text i (ready false) (listing_at false gs e) ≡ reading k n text q (ready true) (listing_at true gs e)
   expect_read sp = word_goes k n text (listing_at false gs e) EXPECT expect_steps sp
 
-  expect_stops : {i j : ℕ} → NoGap text i → ¬ Stands text i 119 → Broken text i (letters EXPECT) j → reading k n text i (ready false) (listing_at false gs e) ≡ stops j
+  pub expect_stops : {i j : ℕ} → NoGap text i → ¬ Stands text i 119 → Broken text i (letters EXPECT) j → reading k n text i (ready false) (listing_at false gs e) ≡ stops j
   unfolding finished letters
   expect_stops clean f b =
       word_stops k n text (listing_at false gs e) EXPECT expect_steps (λ g. listing_stops k n text (listing_at false gs e) e (λ _. refl) clean (λ s. absurd (g s)) (λ s. absurd (f s))) b
@@ -103,41 +103,40 @@ module _ {k n i : ℕ} {text es cs : List ℕ} (few : (records_in es ≤ 504) ×
   pub expect_none : {j : ℕ} → NoGap text i → ¬ Stands text i 119 → Broken text i (letters EXPECT) j → RestNone k n i text es es cs cs j
   expect_none clean f b = record { kept_e = kept_same es few.0; kept_c = kept_same cs few.1; comes = λ gs _. expect_stops k n text gs (records_in es) clean f b }
 
-  module _ {q r : ℕ} {t : Bool} (sp : Spelt text i (letters EXPECT) q) (sk : Skips text q r) (t-is : t ≡ eqb r q && ltb q (length text)) where
-    pub rest_touched : t ≡ true → RestNone k n i text es es cs cs q
-    rest_touched h = record { kept_e = kept_same es few.0; kept_c = kept_same cs few.1; comes = λ gs _. expect_read k n text gs (records_in es) sp ∙ expect_touched k n text gs (records_in es) sk (sym t-is ∙ h) }
+  pub rest_touched : {q r : ℕ} {t : Bool} → Spelt text i (letters EXPECT) q → Skips text q r → t ≡ eqb r q && ltb q (length text) → t ≡ true → RestNone k n i text es es cs cs q
+  rest_touched sp sk t-is h = record { kept_e = kept_same es few.0; kept_c = kept_same cs few.1; comes = λ gs _. expect_read k n text gs (records_in es) sp ∙ expect_touched k n text gs (records_in es) sk (sym t-is ∙ h) }
 
-    module _ (h : t ≡ false) where
-      pub rest_fails : {es' cs' : List ℕ} {j : ℕ} → ListNone k n r text es es' cs cs' j → RestNone k n i text es es' cs cs' j
-      rest_fails x =
-          record {
-            kept_e = x.kept_e;
-            kept_c = x.kept_c;
-            comes = λ gs same. expect_read k n text gs (records_in es) sp ∙ expect_goes k n text gs (records_in es) sk (sym t-is ∙ h) ∙ x.comes (listing_at true gs (records_in es)) (omega arith);
-          }
+module _ {k n i q r : ℕ} {text es cs : List ℕ} {t : Bool} (sp : Spelt text i (letters EXPECT) q) (sk : Skips text q r) (t-is : t ≡ eqb r q && ltb q (length text)) (h : t ≡ false) where
+  pub rest_fails : {es' cs' : List ℕ} {j : ℕ} → ListNone k n r text es es' cs cs' j → RestNone k n i text es es' cs cs' j
+  rest_fails x =
+      record {
+        kept_e = x.kept_e;
+        kept_c = x.kept_c;
+        comes = λ gs same. expect_read k n text gs (records_in es) sp ∙ expect_goes k n text gs (records_in es) sk (sym t-is ∙ h) ∙ x.comes (listing_at true gs (records_in es)) (omega arith);
+      }
 
-      module _ {es' cs' : List ℕ} {u : ℕ} (l : ListOver k n 1 r text es es' cs cs' u) where
-        listed : (gs : List Clause) → length gs ≡ records_in cs → reading k n text i (ready false) (listing_at false gs (records_in es)) ≡ reading k n text u (ready false) (list_added (listing_at true gs (records_in es)) (records_in es') l.to.clauses)
-        listed gs same = expect_read k n text gs (records_in es) sp ∙ expect_goes k n text gs (records_in es) sk (sym t-is ∙ h) ∙ l.to.comes (listing_at true gs (records_in es)) (omega arith)
+  module _ {es' cs' : List ℕ} {u : ℕ} (l : ListOver k n 1 r text es es' cs cs' u) where
+    listed : (gs : List Clause) → length gs ≡ records_in cs → reading k n text i (ready false) (listing_at false gs (records_in es)) ≡ reading k n text u (ready false) (list_added (listing_at true gs (records_in es)) (records_in es') l.to.clauses)
+    listed gs same = expect_read k n text gs (records_in es) sp ∙ expect_goes k n text gs (records_in es) sk (sym t-is ∙ h) ∙ l.to.comes (listing_at true gs (records_in es)) (omega arith)
 
-        pub rest_open : u < length text → RestNone k n i text es es' cs cs' u
-        rest_open inside =
-            record {
-              kept_e = kept_put es _ l.to.put_e l.to.few_e;
-              kept_c = kept_put cs _ l.to.put_c l.to.few_c;
-              comes = λ gs same. listed gs same ∙ text_stops k n text gs (records_in es) (records_in es') l.to.clauses inside l.to.no_gap l.no_when;
-            }
+    pub rest_open : u < length text → RestNone k n i text es es' cs cs' u
+    rest_open inside =
+        record {
+          kept_e = kept_put es _ l.to.put_e l.to.few_e;
+          kept_c = kept_put cs _ l.to.put_c l.to.few_c;
+          comes = λ gs same. listed gs same ∙ text_stops k n text gs (records_in es) (records_in es') l.to.clauses inside l.to.no_gap l.no_when;
+        }
 
-        pub rest_ends : length text ≤ u → RestTo k n i text es es' cs cs'
-        rest_ends over =
-            record {
-              expect = l.to.clauses;
-              few_e = l.to.few_e;
-              few_c = l.to.few_c;
-              put_e = l.to.put_e;
-              put_c = l.to.put_c;
-              comes = λ gs same. listed gs same ∙ text_ends k n text gs (records_in es) (records_in es') l.to.clauses over;
-            }
+    pub rest_ends : length text ≤ u → RestTo k n i text es es' cs cs'
+    rest_ends over =
+        record {
+          expect = l.to.clauses;
+          few_e = l.to.few_e;
+          few_c = l.to.few_c;
+          put_e = l.to.put_e;
+          put_c = l.to.put_c;
+          comes = λ gs same. listed gs same ∙ text_ends k n text gs (records_in es) (records_in es') l.to.clauses over;
+        }
 
 -- `given` and its list, and the rest, where nothing has been read
 module _ {k n i : ℕ} {text es cs : List ℕ} (es-empty : es ≡ []) (cs-empty : cs ≡ []) (sk : Skips text 0 i) where

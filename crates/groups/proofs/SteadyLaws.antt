@@ -1,6 +1,6 @@
 -- Nodes whose gate has no operand, and a step: kind by kind, what is written is what the gates force.
 -- Assumes nothing.
-use Rattle.std.proofs.Common.{◌≡◌, ◌≢◌, refl, sym, ◌∙◌, ap, subst, inl, inr, ◌⊎◌, Bool, true, false, ℕ, ◌-◌, ◌^◌, ◌<◌, List, [], ◌∷◌, ◌++◌, length, slice_set, Contains}
+use Rattle.std.proofs.Common.{◌≡◌, ◌≢◌, refl, sym, ◌∙◌, ap, subst, inl, inr, ◌⊎◌, Bool, true, false, ℕ, ◌-◌, ◌^◌, ◌<◌, List, [], ◌∷◌, ◌++◌, length, slice_set, arith, Contains}
 use Rattle.std.proofs.Math.Bool.{or-false}
 use Rattle.std.proofs.lemmas.List.Folds.{list_any-append}
 use native.Mathlib.Decide.{ℕ_discrete}
@@ -115,7 +115,9 @@ module _ (j : Job) (all : List Clause) where
       go m l (inl e) = both_ways e refl
       go m l (inr e) = b.at m l e
 
-  pub renewed_more : {yielded : List Clause} {row : List Pair} {new : Pair} (k : Clause) → k.node < length row → SteadyAt (j.netlist.node k.node).gate new → Renewed yielded row → Renewed (yielded ++ k ∷ []) (slice_set row k.node new)
+  -- and the node of one more, where it is one of the job's
+  pub renewed_more : {yielded : List Clause} {row : List Pair} {new : Pair} (k : Clause) → k.node < length row → (k.node < j.netlist.size → SteadyAt (j.netlist.node k.node).gate new) → Renewed yielded row
+      → Renewed (yielded ++ k ∷ []) (slice_set row k.node new)
   renewed_more {yielded} {row} {new} k room s b = record { at = λ m l h. go m l h (ℕ_discrete m k.node) }
     where
       fewer : (m : ℕ) → m ≢ k.node → (named_in (yielded ++ k ∷ []) m ≡ true) ⊎ (named_in all m ≡ false) → (named_in yielded m ≡ true) ⊎ (named_in all m ≡ false)
@@ -123,7 +125,7 @@ module _ (j : Job) (all : List Clause) where
       fewer m other (inr e) = inr e
 
       go : (m : ℕ) → m < j.netlist.size → (named_in (yielded ++ k ∷ []) m ≡ true) ⊎ (named_in all m ≡ false) → Dec (m ≡ k.node) → SteadyAt (j.netlist.node m).gate (pair_at (slice_set row k.node new) m)
-      go m l h (yes e) = rw e (rw (stored_there row k.node new room) s)
+      go m l h (yes e) = rw e (rw (stored_there row k.node new room) (s (omega arith)))
       go m l h (no e) = rw (stored_elsewhere row k.node new m e) (b.at m l (fewer m e h))
 
   pub renewed_all : {row : List Pair} → Renewed all row → Steady j row

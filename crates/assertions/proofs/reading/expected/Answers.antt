@@ -17,12 +17,12 @@ pub returns-in_err-over : goal.returns-in_err-over
 unfolding letters
 returns-in_err-over c =
     rw (left_with c.from_residual-in_err-over.result c.from_residual-in_err-over.ensures.1)
-    (record { says = rest_fails c.are_few.ensures c.in_ok-end.ensures.says c.skip-from.ensures c.touches.ensures c.if-touches.false c.in_err-over.ensures.says })
+    (record { says = rest_fails c.in_ok-end.ensures.says c.skip-from.ensures c.touches.ensures c.if-touches.false c.in_err-over.ensures.says })
 
 pub returns-then-over-text : goal.returns-then-over-text
 unfolding letters
-returns-then-over-text c = record { says = rest_open c.are_few.ensures c.in_ok-end.ensures.says c.skip-from.ensures c.touches.ensures c.if-touches.false c.in_ok-over.ensures.says c.if-over-text.true }
+returns-then-over-text c = record { says = rest_open c.in_ok-end.ensures.says c.skip-from.ensures c.touches.ensures c.if-touches.false c.in_ok-over.ensures.says c.if-over-text.true }
 
 pub returns : goal.returns
 unfolding letters
-returns c = record { says = rest_ends c.are_few.ensures c.in_ok-end.ensures.says c.skip-from.ensures c.touches.ensures c.if-touches.false c.in_ok-over.ensures.says c.if-over-text.false }
+returns c = record { says = rest_ends c.in_ok-end.ensures.says c.skip-from.ensures c.touches.ensures c.if-touches.false c.in_ok-over.ensures.says c.if-over-text.false }

@@ -30,7 +30,7 @@ loop-clause-preserved c =
       tt,
       walk_more c.loop-clause.invariant.2 c.in-Some.ensures.steps,
       length-set c.loop-clause.row _ _ ∙ c.loop-clause.invariant.3,
-      renewed_more _ _ c.in-Some.clause room (rw c.from-node.ensures at c.steady_at.ensures) c.loop-clause.invariant.4,
+      renewed_more _ _ c.in-Some.clause room (λ _. rw c.from-node.ensures at c.steady_at.ensures) c.loop-clause.invariant.4,
     )
 
 pub returns : goal.returns
